@@ -1,0 +1,5 @@
+pub mod Letters
+pub mod Points
+pub mod Refusals
+pub mod Faults
+pub mod Rounding
