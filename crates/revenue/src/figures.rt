@@ -4,6 +4,16 @@ use crate::units::HundredthsOfPercent;
 use crate::units::MegawattHours;
 use crate::units::ParasPerKwh;
 use terms::measures::Dinars;
+use crate::units::HundredThousandthsDebug;
+use crate::units::HundredThousandthsPartialEq;
+use crate::units::HundredthsOfPercentDebug;
+use crate::units::HundredthsOfPercentPartialEq;
+use crate::units::MegawattHoursDebug;
+use crate::units::MegawattHoursPartialEq;
+use crate::units::ParasPerKwhDebug;
+use crate::units::ParasPerKwhPartialEq;
+use terms::measures::DinarsDebug;
+use terms::measures::DinarsPartialEq;
 
 // The twelve figures of a closing, in the order of the rules.
 #[derive(Clone, Copy, PartialEq, Eq, Debug)]
