@@ -3,3 +3,6 @@ pub mod carried;
 pub mod figures;
 pub mod period;
 pub mod units;
+
+#[cfg(test)]
+mod tests;
