@@ -1,0 +1,2 @@
+//! The sheet's language: its lines, their words, the numbers that words write, and what a line asks.
+pub mod faults;
