@@ -1,1 +1,5 @@
+pub mod Limits
+pub mod Bytes
 pub mod Faults
+pub mod Lines
+pub mod Seen

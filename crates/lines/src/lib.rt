@@ -1,2 +1,4 @@
 //! The sheet's language: its lines, their words, the numbers that words write, and what a line asks.
+pub mod bytes;
 pub mod faults;
+pub mod raw;
