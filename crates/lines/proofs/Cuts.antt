@@ -5,7 +5,7 @@ use mathlib.Core.Logic.{⊎-elim}
 use Prim.Native.Nat.{ℕ, suc, min, _+_, _-_, _<_, _≤_}
 use native.Mathlib.Omega.{arith}
 use lib.ListN.{length, getD, take, drop}
-use Rattle.std.proofs.shelf.Lists.{at-drop-more, length-drop, take-rest, take-all, drop-all}
+use Rattle.std.proofs.shelf.Lists.{at-drop-more, length-take, length-drop, take-rest, take-all, drop-all}
 use Rattle.std.proofs.shelf.Tests.{eq-eqb, ne-eqb, cases-lt}
 use Rattle.lines.specs.Bytes.{Text, before, part}
 
@@ -34,3 +34,6 @@ clamped sheet at k f m from len =
     (λ (ge : length sheet - at ≤ k). take-all m (drop at sheet) (omega arith) ∙ sym (take-all k (drop at sheet) (omega arith)))
     (cases-lt k (length sheet - at)))
     (cases-lt (length sheet) at))
+
+pub part-short : (sheet : Text) (at k : ℕ) → length (part sheet at k) ≤ length sheet - at
+part-short sheet at k = simp (length-take, length-drop) (omega arith)

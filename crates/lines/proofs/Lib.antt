@@ -1,2 +1,4 @@
 pub mod Cuts
 pub mod Sheets
+pub mod Splits
+pub mod Places

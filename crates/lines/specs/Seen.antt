@@ -6,6 +6,7 @@ use Prim.Native.Nat.{ℕ, _+_, _<_, _≤_}
 use lib.Dec.{ltb}
 use lib.ListN.{length, drop}
 use Rattle.lines.specs.declared.raw.RawLine.{RawLine}
+use Rattle.lines.specs.declared.words.Word.{Word}
 use Rattle.lines.specs.Bytes.{Text, part}
 use Rattle.lines.specs.Lines.{Raw, raw, lines}
 
@@ -36,3 +37,16 @@ pub record BeginsAt (sheet : Text) (at : ℕ) (l : RawLine) : Type 0 where
   pub inside : Inside l
   pub first : lines (drop at sheet) ≡ raw-of l ∷ lines (drop (next-of l) sheet)
   pub onward : at < next-of l
+
+-- the bytes of a word
+abbrev pub text-of : Word → Text
+text-of w = w .text .now
+
+-- its place in the sheet, and its bytes
+abbrev pub seen : Word → ℕ × Text
+seen w = (w .at, text-of w)
+
+-- The word is the part of the sheet at its place.
+pub record PartOf (sheet : Text) (w : Word) : Type 0 where
+  pub inside : w .at + length (text-of w) ≤ length sheet
+  pub same : part sheet (w .at) (length (text-of w)) ≡ text-of w

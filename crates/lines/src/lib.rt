@@ -2,3 +2,4 @@
 pub mod bytes;
 pub mod faults;
 pub mod raw;
+pub mod words;
