@@ -2,3 +2,5 @@ pub mod Cuts
 pub mod Sheets
 pub mod Splits
 pub mod Places
+pub mod Digits
+pub mod Decimals

@@ -26,6 +26,10 @@ texts-seen (w ∷ v) = ap (λ l. text-of w ∷ l) (texts-seen v)
 pub texts : (at : ℕ) (v : List Word) (ws : List Text) → map seen v ≡ placed at ws → map text-of v ≡ ws
 texts at v ws e = texts-seen v ∙ ap (map (λ (x : ℕ × Text). x .1)) e ∙ texts-placed at ws
 
+-- the same line at the same place
+pub moved : (v : List Word) (p : ℕ) (b : Text) (at : ℕ) (line : Text) → p ≡ at → b ≡ line → map seen v ≡ placed p (words b) → map seen v ≡ placed at (words line)
+moved v p b at line same is e = e ∙ ap (λ x. placed x (words b)) same ∙ ap (λ x. placed at (words x)) is
+
 module _ (sheet : Text) where
   abbrev Stands : ℕ × Text → Type 0
   Stands x = (x .0 + length (x .1) ≤ length sheet) × (part sheet (x .0) (length (x .1)) ≡ x .1)

@@ -3,4 +3,7 @@ pub mod Bytes
 pub mod Faults
 pub mod Lines
 pub mod Words
+pub mod Numbers
 pub mod Seen
+pub mod Reading
+pub mod Meant
