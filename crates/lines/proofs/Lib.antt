@@ -4,3 +4,4 @@ pub mod Splits
 pub mod Places
 pub mod Digits
 pub mod Decimals
+pub mod Commands

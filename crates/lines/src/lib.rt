@@ -4,4 +4,5 @@ pub mod faults;
 pub mod line;
 pub mod numbers;
 pub mod raw;
+pub mod reading;
 pub mod words;
