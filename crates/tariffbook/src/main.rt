@@ -1,4 +1,38 @@
-// Runs a sheet: the file that is named by the first argument, or else standard input.
-fn main(rt: LibcRuntime) {
-    let _ = rt;
+// Runs a sheet: the file that the first argument names, or else standard input.
+use sheet::run::run_sheet;
+use std::alloc::Global;
+use std::env;
+use std::error::AnyError;
+use std::fs;
+use std::io;
+use std::io::Read;
+
+// One byte more than a sheet may have, so that a longer one is seen to be too long and no more of it is held.
+const MOST_HELD: u64 = 65_537;
+
+fn read_all(heap: Global, from: impl Read + Drop) -> io::Result<Vec<u8>> {
+    let mut bytes = Vec::new(heap);
+    let mut part = from.take(MOST_HELD);
+    part.read_to_end(&mut bytes)?;
+    Ok(bytes)
+}
+
+fn read_sheet(rt: &LibcRuntime) -> io::Result<Vec<u8>> {
+    let mut args = env::args(rt)?;
+    let _ = args.next();
+    match args.next() {
+        Some(path) => read_all(rt.alloc(), fs::open(rt, path.as_str())?),
+        None => read_all(rt.alloc(), rt.stdin()),
+    }
+}
+
+fn run(rt: &LibcRuntime) -> Result<(), AnyError> {
+    let sheet = read_sheet(rt)?;
+    let printed = run_sheet(rt.alloc(), sheet.as_slice())?;
+    rt.print(printed)?;
+    Ok(())
+}
+
+fn main(rt: LibcRuntime) -> Result<(), AnyError> {
+    rt.report(run(&rt))
 }
