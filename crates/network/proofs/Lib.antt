@@ -1,0 +1,3 @@
+pub mod Firsts
+pub mod Nets
+pub mod Trunks

@@ -1,0 +1,6 @@
+pub mod Limits
+pub mod Net
+pub mod Distances
+pub mod Rules
+pub mod Trunk
+pub mod Meanings
