@@ -3,4 +3,6 @@ pub mod Net
 pub mod Distances
 pub mod Rules
 pub mod Trunk
+pub mod Link
+pub mod Pairing
 pub mod Meanings

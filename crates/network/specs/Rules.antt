@@ -8,6 +8,7 @@ use Rattle.terms.specs.declared.faults.SourceFault.{SourceFault}
 use Rattle.terms.specs.declared.faults.SourceFault.the-variants.{NoStation, WrongCount, BadFigure, NoMemory}
 use Rattle.terms.specs.Faults.{source-refusal}
 use Rattle.terms.specs.Refusals.{Rule, rule, FirstBroken, NoneBroken}
+use Rattle.network.specs.declared.refused.RefusedLayer.{RefusedLayer}
 
 -- the rule that is broken where Bad holds, and refused with that fault
 abbrev pub refused : SourceFault → Type 0 → Rule
@@ -26,3 +27,8 @@ Made rules P (Err NoStation) = FirstBroken rules (source-refusal NoStation)
 Made rules P (Err WrongCount) = FirstBroken rules (source-refusal WrongCount)
 Made rules P (Err (BadFigure i)) = FirstBroken rules (source-refusal (BadFigure i))
 Made rules P (Err NoMemory) = NoneBroken rules
+
+-- A layer of which P holds is made where no rule is broken; else what it was to stand on comes back with the first broken rule.
+abbrev pub Layered : {T S : Type 0} → List Rule → S → (T → Type 0) → Result T (RefusedLayer S) → Type 0
+Layered rules below P (Ok layer) = NoneBroken rules × P layer
+Layered rules below P (Err e) = FirstBroken rules (source-refusal (e .fault)) × (e .below ≡ below)

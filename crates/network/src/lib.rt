@@ -1,4 +1,8 @@
 //! Distance sources: what gives the stations of a network and how far two of them are apart.
+mod distances;
 pub mod limits;
+pub mod link;
+pub mod pairing;
+pub mod refused;
 pub mod source;
 pub mod trunk;
