@@ -4,11 +4,12 @@ use mathlib.Core.Logic.{inl, inr}
 use mathlib.Core.List.{List, [], _∷_, _++_}
 use Prim.Native.Nat.{ℕ, zero, suc, _+_, _<_}
 use native.Mathlib.Omega.{arith}
+use Rattle.std.specs.declared.option.Option.the-variants.{None, Some}
 use Rattle.terms.specs.declared.refusals.Refusal.{Refusal}
 use Rattle.terms.specs.declared.faults.SourceFault.the-variants.{BadFigure}
 use Rattle.terms.specs.Faults.{source-refusal}
 use Rattle.terms.specs.Refusals.{Rule, FirstBroken, NoneBroken}
-use Rattle.network.specs.Rules.{each}
+use Rattle.network.specs.Rules.{each, First}
 
 module _ (Bad : ℕ → Type 0) where
   none-from : (i k : ℕ) → ((j : ℕ) → j < k → Bad (i + j) → ⊥) → NoneBroken (each Bad i k)
@@ -26,15 +27,13 @@ module _ (Bad : ℕ → Type 0) where
        subst (λ (x : ℕ). FirstBroken (each Bad (i + 1) k) (source-refusal (BadFigure x))) same
        (first-from (i + 1) k n (omega arith) (λ j m c. h (suc j) (omega arith) (subst Bad (omega arith) c)) (subst Bad (sym same) b)))
 
-  -- none of the places below k is bad
-  pub none-bad : (k : ℕ) → ((j : ℕ) → j < k → Bad j → ⊥) → NoneBroken (each Bad 0 k)
+  pub none-bad : (k : ℕ) → First Bad k None → NoneBroken (each Bad 0 k)
   none-bad k h = none-from 0 k (λ j l b. h j l (subst Bad (omega arith) b))
 
-  -- n is the first of them that is
-  pub first-bad : (k n : ℕ) → n < k → ((j : ℕ) → j < n → Bad j → ⊥) → Bad n → FirstBroken (each Bad 0 k) (source-refusal (BadFigure n))
-  first-bad k n l h b =
+  pub first-bad : (k i : ℕ) → First Bad k (Some i) → FirstBroken (each Bad 0 k) (source-refusal (BadFigure i))
+  first-bad k i h =
       subst (λ (x : ℕ). FirstBroken (each Bad 0 k) (source-refusal (BadFigure x))) (omega arith)
-      (first-from 0 k n l (λ j m c. h j m (subst Bad (omega arith) c)) (subst Bad (omega arith) b))
+      (first-from 0 k i (h .0) (λ j m c. h .1 .0 j m (subst Bad (omega arith) c)) (subst Bad (omega arith) (h .1 .1)))
 
 -- rules after rules that hold
 pub later-broken : (rs ss : List Rule) (told : Refusal) → NoneBroken rs → FirstBroken ss told → FirstBroken (rs ++ ss) told

@@ -3,6 +3,8 @@ pub mod Net
 pub mod Distances
 pub mod Rules
 pub mod Trunk
+pub mod Grid
+pub mod Table
 pub mod Link
 pub mod Pairing
 pub mod Meanings

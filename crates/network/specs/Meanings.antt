@@ -2,14 +2,19 @@
 use Rattle.std.specs.Of.Vec.{vec-items}
 use Rattle.network.specs.Net.{Net}
 use Rattle.network.specs.Trunk.{trunk-net}
+use Rattle.network.specs.Grid.{grid-net}
 use Rattle.network.specs.Link.{link-net}
 use Rattle.network.specs.Pairing.{cut-pairing}
 use Rattle.network.specs.declared.trunk.Trunk.{Trunk}
+use Rattle.network.specs.declared.table.DistanceTable.{DistanceTable}
 use Rattle.network.specs.declared.link.Link.{Link}
 use Rattle.network.specs.declared.pairing.Pairing.{Pairing}
 
 abbrev pub of-trunk : Trunk → Net
 of-trunk t = trunk-net (vec-items (t .positions))
+
+abbrev pub of-table : DistanceTable → Net
+of-table t = grid-net (t .count) (vec-items (t .figures))
 
 -- where `net` says what the source below means
 abbrev pub of-link : {S : Type 0} → (S → Net) → Link S → Net

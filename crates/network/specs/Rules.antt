@@ -1,7 +1,9 @@
 -- What making a source comes back with, under rules in the order of their checks.
-use Prim.Native.Nat.{ℕ, zero, suc, _+_}
+use Prim.Native.Nat.{ℕ, zero, suc, _+_, _<_}
 use mathlib.Core.Path.{_≡_}
 use mathlib.Core.List.{List, [], _∷_}
+use Rattle.std.specs.declared.option.Option.{Option}
+use Rattle.std.specs.declared.option.Option.the-variants.{None, Some}
 use Rattle.std.specs.declared.result.Result.{Result}
 use Rattle.std.specs.declared.result.Result.the-variants.{Ok, Err}
 use Rattle.terms.specs.declared.faults.SourceFault.{SourceFault}
@@ -32,3 +34,8 @@ Made rules P (Err NoMemory) = NoneBroken rules
 abbrev pub Layered : {T S : Type 0} → List Rule → S → (T → Type 0) → Result T (RefusedLayer S) → Type 0
 Layered rules below P (Ok layer) = NoneBroken rules × P layer
 Layered rules below P (Err e) = FirstBroken rules (source-refusal (e .fault)) × (e .below ≡ below)
+
+-- the first of the k places at which Bad holds, or none
+abbrev pub First : (ℕ → Type 0) → ℕ → Option ℕ → Type 0
+First Bad k None = (j : ℕ) → j < k → Bad j → ⊥
+First Bad k (Some i) = (i < k) × (((j : ℕ) → j < i → Bad j → ⊥) × Bad i)

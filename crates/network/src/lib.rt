@@ -1,8 +1,10 @@
 //! Distance sources: what gives the stations of a network and how far two of them are apart.
 mod distances;
+mod grid;
 pub mod limits;
 pub mod link;
 pub mod pairing;
 pub mod refused;
 pub mod source;
+pub mod table;
 pub mod trunk;

@@ -1,6 +1,8 @@
 ghost use mathlib.Core.Path.{_≡_};
 ghost use Prim.Native.Nat.{ℕ, _<_, _≤_};
-ghost use Rattle.network.specs.Rules.{Made};
+ghost use lib.ListN.{length, getD};
+ghost use Rattle.network.specs.Limits.{longest};
+ghost use Rattle.network.specs.Rules.{First, Made};
 ghost use Rattle.network.specs.Trunk.{trunk-net, trunk-rules};
 ghost use Rattle.network.specs.Meanings.{of-trunk};
 use super::Trunk;
@@ -11,6 +13,18 @@ use std::alloc::Global;
 use terms::faults::SourceFault;
 use terms::measures::Km;
 
+// The first position over the limit.
+fn first_high(positions: &[u32]) -> Option<usize>
+    ensures { λ r. ⌜ First (λ i. longest < getD (now (positions .entry)) i 0) (length (now (positions .entry))) r ⌝ }
+{
+    for i in 0..positions.len() {
+        if positions[i] > LONGEST {
+            return Some(i);
+        }
+    }
+    None
+}
+
 impl Trunk {
     // The stations in their order, each at its position in km.
     pub fn new(heap: Global, positions: &[u32]) -> Result<Trunk, SourceFault>
@@ -19,10 +33,8 @@ impl Trunk {
         if positions.len() == 0 || positions.len() > BOTTOM_STATIONS as usize {
             return Err(SourceFault::WrongCount);
         }
-        for i in 0..positions.len() {
-            if positions[i] > LONGEST {
-                return Err(SourceFault::BadFigure(i));
-            }
+        if let Some(i) = first_high(positions) {
+            return Err(SourceFault::BadFigure(i));
         }
         let Ok(positions) = Vec::from_slice(heap, positions) else {
             return Err(SourceFault::NoMemory);
