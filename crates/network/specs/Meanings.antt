@@ -7,6 +7,7 @@ use Rattle.network.specs.Link.{link-net}
 use Rattle.network.specs.Pairing.{cut-pairing}
 use Rattle.network.specs.declared.trunk.Trunk.{Trunk}
 use Rattle.network.specs.declared.table.DistanceTable.{DistanceTable}
+use Rattle.network.specs.declared.map.PipeMap.{PipeMap}
 use Rattle.network.specs.declared.link.Link.{Link}
 use Rattle.network.specs.declared.pairing.Pairing.{Pairing}
 
@@ -15,6 +16,10 @@ of-trunk t = trunk-net (vec-items (t .positions))
 
 abbrev pub of-table : DistanceTable → Net
 of-table t = grid-net (t .count) (vec-items (t .figures))
+
+-- that of the distances worked out when it was made
+abbrev pub of-map : PipeMap → Net
+of-map m = of-table (m .table)
 
 -- where `net` says what the source below means
 abbrev pub of-link : {S : Type 0} → (S → Net) → Link S → Net

@@ -13,9 +13,9 @@ pub(crate) fn cell(n: usize, a: usize, b: usize) -> usize
     a * n + b
 }
 
-pub(crate) fn figure_at(figures: &[u16], n: usize, a: usize, b: usize) -> u32
+pub(crate) fn figure_at(figures: &[u16], n: usize, a: usize, b: usize) -> u16
     requires { ⌜ Square n (now figures) ⌝ ∗ ⌜ a < n ⌝ ∗ ⌜ b < n ⌝ }
     ensures { λ r. ⌜ r ≡ at n (now (figures .entry)) a b ⌝ }
 {
-    figures[cell(n, a, b)] as u32
+    figures[cell(n, a, b)]
 }

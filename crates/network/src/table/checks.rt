@@ -7,7 +7,7 @@ ghost use Rattle.network.specs.Rules.{First};
 ghost use Rattle.network.specs.Grid.{Square};
 ghost use Rattle.network.specs.Table.{NoFigure, Beaten, BreaksLaw};
 use crate::grid::figure_at;
-use crate::limits::LONGEST;
+use crate::limits::LONGEST_FIGURE;
 use crate::limits::NONE_FIGURE;
 
 // The first figure that is neither a distance nor none.
@@ -15,7 +15,7 @@ pub(super) fn first_no_figure(figures: &[u16]) -> Option<usize>
     ensures { λ r. ⌜ First (λ i. NoFigure (getD (now (figures .entry)) i 0)) (length (now (figures .entry))) r ⌝ }
 {
     for i in 0..figures.len() {
-        if figures[i] as u32 > LONGEST && figures[i] != NONE_FIGURE {
+        if figures[i] > LONGEST_FIGURE && figures[i] != NONE_FIGURE {
             return Some(i);
         }
     }
@@ -28,7 +28,7 @@ fn is_beaten(figures: &[u16], n: usize, a: usize, b: usize, c: usize) -> bool
 {
     let to = figure_at(figures, n, a, c);
     let from = figure_at(figures, n, c, b);
-    to <= LONGEST && from <= LONGEST && to + from < figure_at(figures, n, a, b)
+    to <= LONGEST_FIGURE && from <= LONGEST_FIGURE && to + from < figure_at(figures, n, a, b)
 }
 
 // A station over which there is a shorter detour, or one where the figure is none.

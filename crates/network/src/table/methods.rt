@@ -8,7 +8,7 @@ use super::checks::first_lawless;
 use super::checks::first_no_figure;
 use crate::grid::figure_at;
 use crate::limits::BOTTOM_STATIONS;
-use crate::limits::LONGEST;
+use crate::limits::LONGEST_FIGURE;
 use crate::source::Source;
 use std::alloc::Global;
 use terms::faults::SourceFault;
@@ -50,6 +50,6 @@ pub impl Source for DistanceTable as DistanceTableSource {
             return None;
         }
         let k = figure_at(&self.figures, self.count, a, b);
-        if k <= LONGEST { Some(Km(k)) } else { None }
+        if k <= LONGEST_FIGURE { Some(Km(u32::from(k))) } else { None }
     }
 }
