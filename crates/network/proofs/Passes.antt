@@ -1,5 +1,5 @@
 -- One pass over all cells, in place: neither row k nor column k changes on the way.
-use mathlib.Core.Path.{_≡_, sym, ap, _∙_}
+use mathlib.Core.Path.{_≡_, sym, ap, subst, _∙_}
 use mathlib.Core.Bool.{cond}
 use mathlib.Core.List.{List}
 use Prim.Native.Nat.{ℕ, _+_, _*_, _≤_, _<_, min}
@@ -57,7 +57,7 @@ module _ (n : ℕ) (ws : List ℕ) (k : ℕ) (hk : k < n) (itself : at n ws k k 
   row-kept : (b : ℕ) → through n ws k k b ≡ at n ws k b
   row-kept b = simp itself (shortcut-before (at n ws k b))
 
-  pub row-more : (vs : List ℕ) (a b : ℕ) → Square n vs → a < n → b < n → Row n ws k a b vs → Row n ws k a (b + 1) (set vs (a * n + b) (through n vs k a b))
+  row-more : (vs : List ℕ) (a b : ℕ) → Square n vs → a < n → b < n → Row n ws k a b vs → Row n ws k a (b + 1) (set vs (a * n + b) (through n vs k a b))
   row-more vs a b sq ha hb inv c d hc hd =
       let x : at n vs a k ≡ at n ws a k = either-cell a a k b (at n vs a k) (through n ws k a k) (at n ws a k) (column-kept a) (inv a k ha hk) in
       let y : at n vs k b ≡ at n ws k b = not-yet k a b (at n vs k b) (through n ws k k b) (at n ws k b) (inv k b hk hb) in
@@ -67,6 +67,10 @@ module _ (n : ℕ) (ws : List ℕ) (k : ℕ) (hk : k < n) (itself : at n ws k k 
       (written n vs a b (through n vs k a b) c d sq ha hb hd)
       (inv c d hc hd)
       (λ p q. e ∙ ap (λ (t : ℕ). through n ws k t b) (sym p) ∙ ap (λ (t : ℕ). through n ws k c t) (sym q))
+
+  -- the same of figures that are told to be so
+  pub row-told : (vs us : List ℕ) (a b : ℕ) → us ≡ set vs (a * n + b) (through n vs k a b) → Square n vs → a < n → b < n → Row n ws k a b vs → Row n ws k a (b + 1) us
+  row-told vs us a b e sq ha hb inv = subst (Row n ws k a (b + 1)) (sym e) (row-more vs a b sq ha hb inv)
 
   pub rows-more : (vs us : List ℕ) (a : ℕ) → a < n → Rows n ws k a vs → ((c d : ℕ) → c < n → d < n → at n us c d ≡ cond (eqb c a) (through n vs k c d) (at n vs c d)) → Rows n ws k (a + 1) us
   rows-more vs us a ha inv row c d hc hd =
