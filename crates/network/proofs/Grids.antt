@@ -1,19 +1,23 @@
 -- The laws of a square of figures are those of the net that it means.
-use mathlib.Core.Path.{_≡_, sym, ap, _∙_}
+use mathlib.Core.Path.{_≡_, refl, sym, ap, _∙_}
 use mathlib.Core.Logic.{_⊎_, inl, inr, ⊎-elim, ∥∥₁-elim}
 use mathlib.Core.Bool.{cond}
 use mathlib.Core.List.{List}
-use Prim.Native.Nat.{ℕ, _+_, _≤_, _<_}
+use Prim.Native.Nat.{ℕ, _+_, _*_, _/_, _%_, _≤_, _<_}
 use native.Mathlib.Omega.{arith}
 use native.Mathlib.Bridge.{le-prop}
 use base.Stored.{coded-set, codedℕ}
 use lib.Dec.{leb}
+use lib.ListN.{getD}
 use Rattle.std.proofs.shelf.Ways.{tells}
+use Rattle.std.proofs.shelf.Bits.{div-mul-add, mod-mul-add}
+use Rattle.std.specs.declared.option.Option.{Option}
 use Rattle.std.specs.declared.option.Option.the-variants.{None, Some}
 use Rattle.network.specs.Limits.{bottom-stations, longest}
 use Rattle.network.specs.Net.{Net, Lawful, inside}
-use Rattle.network.specs.Grid.{at, distance-of, grid-net, GridLaws}
+use Rattle.network.specs.Grid.{at, distance-of, figure-of, grid-net, GridLaws}
 use Rattle.network.proofs.Nets.{below-or-not, inside-in, inside-out, inside-some}
+use Rattle.network.proofs.Cells.{cell-in}
 
 -- the laws out of a ghost field
 pub unlock : (n : ℕ) (ws : List ℕ) → ∥ GridLaws n ws ∥₁ → GridLaws n ws
@@ -92,3 +96,32 @@ lawful-grid n ws law = record {
       let t = law .detour a b c (at n ws a b) (at n ws b c) (seen n ws a b ha hb e) (seen n ws b c hb hc f) in
       omega (arith, t .1 .1, back n ws a c (t .0) (t .1 .0) .1 .1 .0);
 }
+
+read-back : (o : Option ℕ) → ((k : ℕ) → o ≡ Some k → k ≤ longest) → distance-of (figure-of o) ≡ o
+read-back None h = refl
+read-back (Some k) h = is-distance k (h k refl)
+
+-- the figures of a lawful net mean it
+module _ (net : Net) (law : Lawful net) (ws : List ℕ)
+    (figures : (k : ℕ) → k < net .stations * net .stations → getD ws k 0 ≡ figure-of (net .distance (k / net .stations) (k % net .stations))) where
+  abbrev m : ℕ
+  m = net .stations
+
+  placed : (a b : ℕ) → a < m → b < m → at m ws a b ≡ figure-of (net .distance a b)
+  placed a b ha hb =
+      figures (a * m + b) (cell-in m a b ha hb)
+      ∙ ap (λ (x : ℕ). figure-of (net .distance x ((a * m + b) % m))) (div-mul-add a m b hb)
+      ∙ ap (λ (x : ℕ). figure-of (net .distance a x)) (mod-mul-add a m b hb)
+
+  far : (a b : ℕ) → grid-net m ws .distance a b ≡ net .distance a b
+  far a b =
+      ⊎-elim
+      (λ h. ⊎-elim
+        (λ k. inside-in m a b _ h k ∙ ap distance-of (placed a b h k) ∙ read-back (net .distance a b) (law .short a b))
+        (λ k. inside-out m a b _ (inr k) ∙ sym (law .outside a b (inr k)))
+        (below-or-not b m))
+      (λ h. inside-out m a b _ (inl h) ∙ sym (law .outside a b (inl h)))
+      (below-or-not a m)
+
+  pub tabulated : grid-net m ws ≡ net
+  tabulated = λ i. record { stations = m; distance = λ a b. far a b i }

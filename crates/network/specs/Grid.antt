@@ -7,7 +7,7 @@ use lib.ListN.{length, getD}
 use Prim.Native.Nat.{ℕ, _+_, _*_, _≤_, _<_}
 use Rattle.std.specs.declared.option.Option.{Option}
 use Rattle.std.specs.declared.option.Option.the-variants.{None, Some}
-use Rattle.network.specs.Limits.{bottom-stations, longest}
+use Rattle.network.specs.Limits.{bottom-stations, longest, none-figure}
 use Rattle.network.specs.Net.{Net, inside}
 
 -- the figure in row a and column b of n columns
@@ -17,6 +17,11 @@ at n figures a b = getD figures (a * n + b) 0
 -- A figure up to 9,999 is a distance. Any other stands for none.
 abbrev pub distance-of : ℕ → Option ℕ
 distance-of figure = cond (leb figure longest) (Some figure) None
+
+-- the figure that stands for a distance or none
+abbrev pub figure-of : Option ℕ → ℕ
+figure-of None = none-figure
+figure-of (Some k) = k
 
 -- The distance of two stations is the figure in the row of one and the column of the other.
 abbrev pub grid-net : ℕ → List ℕ → Net

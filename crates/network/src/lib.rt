@@ -1,5 +1,6 @@
 //! Distance sources: what gives the stations of a network and how far two of them are apart.
 mod distances;
+pub mod figures;
 mod grid;
 pub mod limits;
 pub mod link;
