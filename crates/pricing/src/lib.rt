@@ -1,0 +1,6 @@
+//! Shares of the allowed revenue, tariffs, approval and short prices.
+pub mod amount;
+pub mod basis;
+pub mod release;
+pub mod relief;
+pub mod sharing;
