@@ -1,2 +1,6 @@
 pub mod Limits
 pub mod Shares
+pub mod Fractions
+pub mod Exact
+pub mod Methodology
+pub mod Tariffs
