@@ -4,3 +4,5 @@ pub mod Fractions
 pub mod Exact
 pub mod Methodology
 pub mod Tariffs
+pub mod Rules
+pub mod Drafts

@@ -1,5 +1,5 @@
 -- The tariffs of shares, and what is promised of a side's three.
-use Prim.Native.Nat.{ℕ, _+_, _*_, _≤_}
+use Prim.Native.Nat.{ℕ, _+_, _*_, _≤_, max}
 use mathlib.Core.Path.{_≡_}
 use mathlib.Core.Bool.{cond}
 use lib.Dec.{eqb}
@@ -43,9 +43,12 @@ shared f = f .main .share .0 + f .other .share .0 + f .storage .share .0
 abbrev pub planned : SideLots → ℕ
 planned l = l .main .0 + l .other .0 + l .storage .0
 
+abbrev pub steps-of : Option PriceSteps → ℕ
+steps-of None = 0
+steps-of (Some t) = t .0
+
 abbrev pub paid : Option PriceSteps → Lots → ℕ
-paid None lots = 0
-paid (Some t) lots = t .0 * lots .0
+paid tariff lots = steps-of tariff * lots .0
 
 abbrev pub takings : SideFigures → SideLots → ℕ
 takings f l = paid (f .main .tariff) (l .main) + paid (f .other .tariff) (l .other) + paid (f .storage .tariff) (l .storage)
@@ -75,12 +78,6 @@ pub record SidePromised (b : Basis) (l : SideLots) (f : SideFigures) : Type 0 wh
   pub methodical : Methodical b
   pub collects : Weighed b l → Collects (b .amount .0) (planned l) (takings f l)
 
--- a tariff, if there is one, is no larger than any can be
-abbrev pub Bearable : Option PriceSteps → Type 0
-Bearable None = Unit {0}
-Bearable (Some t) = t .0 ≤ most-tariff
-
-pub record AllBearable (f : SideFigures) : Type 0 where
-  pub main : Bearable (f .main .tariff)
-  pub other : Bearable (f .other .tariff)
-  pub storage : Bearable (f .storage .tariff)
+-- the highest of a side's tariffs
+abbrev pub highest : SideFigures → ℕ
+highest f = max (steps-of (f .main .tariff)) (max (steps-of (f .other .tariff)) (steps-of (f .storage .tariff)))

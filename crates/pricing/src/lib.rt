@@ -1,7 +1,9 @@
 //! Shares of the allowed revenue, tariffs, approval and short prices.
 pub mod amount;
 pub mod basis;
+pub mod decision;
 pub mod figures;
+pub mod plan;
 pub mod release;
 pub mod relief;
 pub mod sharing;
