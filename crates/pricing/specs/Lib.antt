@@ -6,3 +6,5 @@ pub mod Methodology
 pub mod Tariffs
 pub mod Rules
 pub mod Drafts
+pub mod Products
+pub mod Prices

@@ -13,6 +13,8 @@ use crate::sharing::Sharing;
 use crate::tariffs::side_figures;
 use terms::faults::BookFault;
 
+mod prices;
+
 // Six shares and tariffs that are not yet approved. Nothing is priced or printed from a draft.
 #[derive(Drop)]
 pub struct Draft {

@@ -4,6 +4,7 @@ pub mod basis;
 pub mod decision;
 pub mod figures;
 pub mod plan;
+pub mod products;
 pub mod release;
 pub mod relief;
 pub mod sharing;
