@@ -8,3 +8,4 @@ pub mod Rules
 pub mod Drafts
 pub mod Products
 pub mod Prices
+pub mod Lines

@@ -13,6 +13,7 @@ use crate::sharing::Sharing;
 use crate::tariffs::side_figures;
 use terms::faults::BookFault;
 
+mod lines;
 mod prices;
 
 // Six shares and tariffs that are not yet approved. Nothing is priced or printed from a draft.
