@@ -2,8 +2,9 @@
 use Prim.Native.Nat.{ℕ, _+_}
 use mathlib.Core.Path.{_≡_}
 use mathlib.Core.List.{List, [], _∷_}
-use Rattle.terms.specs.declared.refusals.Part.the-variants as part
-use Rattle.terms.specs.Refusals.{Rule, rule, refusal}
+use Rattle.terms.specs.declared.faults.BookFault.the-variants.{NoEntryShares, NoExitShares}
+use Rattle.terms.specs.Faults.{book-refusal}
+use Rattle.terms.specs.Refusals.{Rule, rule}
 use Rattle.pricing.specs.declared.basis.Basis.{Basis}
 use Rattle.pricing.specs.declared.figures.SideLots.{SideLots}
 use Rattle.pricing.specs.declared.figures.TariffFigures.{TariffFigures}
@@ -32,7 +33,7 @@ drawing-of allowed e x =
 -- Entries without exact shares are refused first, then exits without: their weights other than storage's are all 0.
 abbrev pub draw-rules : Drawing → List Rule
 draw-rules d =
-    rule (refusal 13 part.Book 0) (others (d .entries) ≡ 0) ∷ rule (refusal 14 part.Book 0) (others (d .exits) ≡ 0) ∷ []
+    rule (book-refusal NoEntryShares) (others (d .entries) ≡ 0) ∷ (rule (book-refusal NoExitShares) (others (d .exits) ≡ 0) ∷ [])
 
 -- the six shares and tariffs
 abbrev pub figures-of : Drawing → TariffFigures

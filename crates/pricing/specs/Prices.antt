@@ -10,9 +10,10 @@ use Rattle.terms.specs.declared.points.Side.{Side}
 use Rattle.terms.specs.declared.points.Side.the-variants.{Entry, Exit}
 use Rattle.terms.specs.declared.points.Kind.{Kind}
 use Rattle.terms.specs.declared.points.Kind.the-variants.{Transmission, Production, Storage, Local, Interconnector}
-use Rattle.terms.specs.declared.refusals.Part.the-variants as part
+use Rattle.terms.specs.declared.faults.BookFault.the-variants.{KindNotOfSide, NoProduct, MultiplierOutOfRange, NoTariff}
+use Rattle.terms.specs.Faults.{book-refusal}
 use Rattle.terms.specs.Points.{of-side}
-use Rattle.terms.specs.Refusals.{Rule, rule, refusal}
+use Rattle.terms.specs.Refusals.{Rule, rule}
 use Rattle.terms.specs.Rounding.{nearest, Within}
 use Rattle.pricing.specs.declared.figures.TariffFigures.{TariffFigures}
 use Rattle.pricing.specs.declared.products.Product.{Product}
@@ -37,10 +38,10 @@ tariff-in f Exit Interconnector = f .exits .other .tariff
 -- the element has no tariff.
 abbrev pub price-rules : TariffFigures → Side → Kind → Product → ℕ → List Rule
 price-rules f side kind p m =
-    rule (refusal 1 part.Book 0) (of-side side kind ≡ false) ∷
-    rule (refusal 15 part.Book 0) (NoSuch p) ∷
-    rule (refusal 16 part.Book 0) (OutOfRange (p .term) m) ∷
-    rule (refusal 17 part.Book 0) (tariff-in f side kind ≡ None) ∷ []
+    rule (book-refusal KindNotOfSide) (of-side side kind ≡ false)
+    ∷ (rule (book-refusal NoProduct) (NoSuch p)
+    ∷ (rule (book-refusal MultiplierOutOfRange) (OutOfRange (p .term) m)
+    ∷ (rule (book-refusal NoTariff) (tariff-in f side kind ≡ None) ∷ [])))
 
 -- In a year of so many days: multiplier × tariff × the product's days / the year's days, or the same in hours, to the nearest step.
 abbrev pub price-in : ℕ → ℕ → ℕ → Product → ℕ

@@ -9,3 +9,6 @@ pub mod release;
 pub mod relief;
 pub mod sharing;
 pub mod tariffs;
+
+#[cfg(test)]
+mod tests;
