@@ -54,19 +54,6 @@ pub record Bounded (p : Plain) (s : Side) : Type 0 where
 abbrev pub HasExactShares : Net → Plain → Side → Type 0
 HasExactShares net p s = HasShares (basis-of net p s)
 
--- What a draw comes back with: the six shares and tariffs that the rules define on the book's figures, or the refusal of the first
--- side that has no exact shares.
-pub data Draws (net : Net) (p : Plain) : Outcome → Type 0 where
-  given : HasExactShares net p Entry → HasExactShares net p Exit → Draws net p (Ok (Drawn (figures-of (drawing net p))))
-  no-entry-shares : (HasExactShares net p Entry → ⊥) → Draws net p (Err NoEntryShares)
-  no-exit-shares : HasExactShares net p Entry → (HasExactShares net p Exit → ⊥) → Draws net p (Err NoExitShares)
-
--- A draw is answered, in one way, and changes nothing.
-pub record Drawable (net : Net) (p : Plain) : Type 0 where
-  pub outcome : Outcome
-  pub handled : Handles net p Draw outcome p
-  pub only : (o : Outcome) (p′ : Plain) → Handles net p Draw o p′ → Draws net p o × (p′ ≡ p)
-
 -- one side of the six
 abbrev pub side-in : TariffFigures → Side → SideFigures
 side-in f Entry = f .entries
@@ -76,7 +63,7 @@ side-in f Exit = f .exits
 abbrev pub collected : TariffFigures → Plain → ℕ
 collected f p = takings (f .entries) (side-lots (p .points) Entry) + takings (f .exits) (side-lots (p .points) Exit)
 
--- What is promised of the figures that a draw gave.
+-- What is promised of the figures that a draw gives.
 pub record Drafted (net : Net) (p : Plain) (f : TariffFigures) : Type 0 where
   -- the six shares add up to the allowed revenue
   pub whole : shared (f .entries) + shared (f .exits) ≡ p .allowed
@@ -87,6 +74,20 @@ pub record Drafted (net : Net) (p : Plain) (f : TariffFigures) : Type 0 where
   -- the exact shares are those of the methodology
   pub methodical : (s : Side) → Methodical (basis-of net p s)
 
+-- What a draw comes back with: the six shares and tariffs that the rules define on the book's figures, with what is promised of
+-- them, or the refusal of the first side that has no exact shares.
+pub data Draws (net : Net) (p : Plain) : Outcome → Type 0 where
+  given : HasExactShares net p Entry → HasExactShares net p Exit → Drafted net p (figures-of (drawing net p)) → Draws net p (Ok (Drawn (figures-of (drawing net p))))
+  no-entry-shares : (HasExactShares net p Entry → ⊥) → Draws net p (Err NoEntryShares)
+  no-exit-shares : HasExactShares net p Entry → (HasExactShares net p Exit → ⊥) → Draws net p (Err NoExitShares)
+
+-- A draw is answered, in one way, and changes nothing.
+pub record Drawable (net : Net) (p : Plain) : Type 0 where
+  pub outcome : Outcome
+  pub draws : Draws net p outcome
+  pub handled : Handles net p Draw outcome p
+  pub only : (o : Outcome) (p′ : Plain) → Handles net p Draw o p′ → (o ≡ outcome) × (p′ ≡ p)
+
 pub record Promised (net : Net) (p : Plain) : Type 0 where
   pub reached : Reached net (p .points)
   pub averaged : Averaged net (p .points)
@@ -96,7 +97,6 @@ pub record Promised (net : Net) (p : Plain) : Type 0 where
   -- both sides weigh the same: each is the sum, over all pairs of an entry and an exit, of lots times lots times distance
   pub level : weight (basis-of net p Entry) ≡ weight (basis-of net p Exit)
   pub draft : Drawable net p
-  pub drafted : (f : TariffFigures) (p′ : Plain) → Handles net p Draw (Ok (Drawn f)) p′ → Drafted net p f
   -- the closings were accepted one after another, and leave what is carried
   pub closed : Accepted (p .closings) (p .carried)
   -- the corrections add up to what was taken in and what is carried; none took in more than three tenths of its base,
