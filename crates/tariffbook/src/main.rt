@@ -1,5 +1,10 @@
 // Runs a sheet: the file that the first argument names, or else standard input.
+// `--distances` and `--tariffs` show built-in figures instead.
+mod examples;
+
 use sheet::run::run_sheet;
+use examples::show_distances;
+use examples::show_tariffs;
 use std::alloc::Global;
 use std::env;
 use std::error::AnyError;
@@ -17,20 +22,27 @@ fn read_all(heap: Global, from: impl Read + Drop) -> io::Result<Vec<u8>> {
     Ok(bytes)
 }
 
-fn read_sheet(rt: &LibcRuntime) -> io::Result<Vec<u8>> {
-    let mut args = env::args(rt)?;
-    let _ = args.next();
-    match args.next() {
-        Some(path) => read_all(rt.alloc(), fs::open(rt, path.as_str())?),
-        None => read_all(rt.alloc(), rt.stdin()),
-    }
-}
-
-fn run(rt: &LibcRuntime) -> Result<(), AnyError> {
-    let sheet = read_sheet(rt)?;
+fn print_sheet(rt: &LibcRuntime, sheet: Vec<u8>) -> Result<(), AnyError> {
     let printed = run_sheet(rt.alloc(), sheet.as_slice())?;
     rt.print(printed)?;
     Ok(())
+}
+
+fn run(rt: &LibcRuntime) -> Result<(), AnyError> {
+    let mut args = env::args(rt)?;
+    let _ = args.next();
+    match args.next() {
+        None => print_sheet(rt, read_all(rt.alloc(), rt.stdin())?),
+        Some(word) => {
+            if word.as_str() == "--distances" {
+                return show_distances(rt);
+            }
+            if word.as_str() == "--tariffs" {
+                return show_tariffs(rt);
+            }
+            print_sheet(rt, read_all(rt.alloc(), fs::open(rt, word.as_str())?)?)
+        }
+    }
 }
 
 fn main(rt: LibcRuntime) -> Result<(), AnyError> {
