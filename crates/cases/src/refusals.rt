@@ -19,87 +19,113 @@ use terms::faults::SourceFaultDebug;
 use terms::faults::SourceFaultPartialEq;
 use terms::measures::Km;
 
-#[test]
-fn a_trunk_has_1_to_64_stations(rt: LibcRuntime) -> Result<(), Fail> {
-    let many = [7; 65];
-    check_eq(fault(Trunk::new(rt.alloc(), &[])), Some(SourceFault::WrongCount))?;
-    check_eq(fault(Trunk::new(rt.alloc(), &[7])), None)?;
-    check_eq(fault(Trunk::new(rt.alloc(), &many[0..64])), None)?;
-    check_eq(fault(Trunk::new(rt.alloc(), &many)), Some(SourceFault::WrongCount))
-}
+// What a source is made of, and what it is refused with.
+#[derive(Drop)]
+struct TrunkCase<'a>(&'a [u32], Option<SourceFault>);
+#[derive(Drop)]
+struct TableCase<'a>(u32, &'a [u16], Option<SourceFault>);
+#[derive(Drop)]
+struct MapCase<'a>(u32, &'a [Pipe], Option<SourceFault>);
 
 #[test]
-fn the_first_position_over_9999_is_told(rt: LibcRuntime) -> Result<(), Fail> {
-    check_eq(fault(Trunk::new(rt.alloc(), &[0, 9_999])), None)?;
-    check_eq(fault(Trunk::new(rt.alloc(), &[0, 9_999, 10_000, 10_001])), Some(SourceFault::BadFigure(2)))?;
-    check_eq(fault(Trunk::new(rt.alloc(), &[70_000])), Some(SourceFault::BadFigure(0)))
+fn a_trunk_has_1_to_64_stations_at_up_to_9999_km(rt: LibcRuntime) -> Result<(), Fail> {
+    let many = [7; 65];
+    let cases = [
+        TrunkCase(&[], Some(SourceFault::WrongCount)),
+        TrunkCase(&[7], None),
+        TrunkCase(&many[0..64], None),
+        TrunkCase(&many, Some(SourceFault::WrongCount)),
+        TrunkCase(&[0, 9_999], None),
+        TrunkCase(&[0, 9_999, 10_000, 10_001], Some(SourceFault::BadFigure(2))),
+        TrunkCase(&[70_000], Some(SourceFault::BadFigure(0))),
+    ];
+    for case in &cases {
+        check_eq(fault(Trunk::new(rt.alloc(), case.0)), case.1)?;
+    }
+    Ok(())
 }
 
 #[test]
 fn a_table_has_a_row_for_each_of_1_to_64_stations(rt: LibcRuntime) -> Result<(), Fail> {
     let many = [0; 4_225];
-    check_eq(fault(DistanceTable::new(rt.alloc(), 0, &[])), Some(SourceFault::WrongCount))?;
-    check_eq(fault(DistanceTable::new(rt.alloc(), 65, &many)), Some(SourceFault::WrongCount))?;
-    check_eq(fault(DistanceTable::new(rt.alloc(), 64, &many[0..4_096])), None)?;
-    check_eq(fault(DistanceTable::new(rt.alloc(), 64, &many[0..4_095])), Some(SourceFault::WrongCount))?;
-    check_eq(fault(DistanceTable::new(rt.alloc(), 2, &many[0..5])), Some(SourceFault::WrongCount))
+    let cases = [
+        TableCase(0, &[], Some(SourceFault::WrongCount)),
+        TableCase(65, &many, Some(SourceFault::WrongCount)),
+        TableCase(64, &many[0..4_096], None),
+        TableCase(64, &many[0..4_095], Some(SourceFault::WrongCount)),
+        TableCase(2, &many[0..5], Some(SourceFault::WrongCount)),
+    ];
+    for case in &cases {
+        check_eq(fault(DistanceTable::new(rt.alloc(), case.0, case.1)), case.2)?;
+    }
+    Ok(())
 }
 
 #[test]
-fn a_figure_is_a_distance_or_none_before_any_law_is_looked_at(rt: LibcRuntime) -> Result<(), Fail> {
-    check_eq(fault(DistanceTable::new(rt.alloc(), 2, &[0, 9_999, 9_999, 0])), None)?;
-    check_eq(fault(DistanceTable::new(rt.alloc(), 2, &[0, 65_535, 65_535, 0])), None)?;
-    check_eq(fault(DistanceTable::new(rt.alloc(), 2, &[5, 0, 10_000, 0])), Some(SourceFault::BadFigure(2)))?;
-    check_eq(fault(DistanceTable::new(rt.alloc(), 2, &[0, 65_534, 65_534, 0])), Some(SourceFault::BadFigure(1)))
-}
-
-#[test]
-fn the_first_figure_that_breaks_a_law_is_told(rt: LibcRuntime) -> Result<(), Fail> {
-    let none = 65_535;
-    check_eq(fault(DistanceTable::new(rt.alloc(), 2, &[0, 3, 3, 1])), Some(SourceFault::BadFigure(3)))?;
-    check_eq(fault(DistanceTable::new(rt.alloc(), 2, &[0, 3, 4, 0])), Some(SourceFault::BadFigure(1)))?;
-    check_eq(fault(DistanceTable::new(rt.alloc(), 2, &[0, 3, none, 0])), Some(SourceFault::BadFigure(1)))?;
-    check_eq(fault(DistanceTable::new(rt.alloc(), 3, &[0, 1, 2, 1, 0, 1, 2, 1, 0])), None)?;
-    check_eq(fault(DistanceTable::new(rt.alloc(), 3, &[0, 1, 3, 1, 0, 1, 3, 1, 0])), Some(SourceFault::BadFigure(2)))?;
-    check_eq(fault(DistanceTable::new(rt.alloc(), 3, &[0, 1, none, 1, 0, 1, none, 1, 0])), Some(SourceFault::BadFigure(2)))
+fn a_figure_is_a_distance_or_none_and_then_keeps_the_laws(rt: LibcRuntime) -> Result<(), Fail> {
+    let cases = [
+        TableCase(2, &[0, 9_999, 9_999, 0], None),
+        TableCase(2, &[0, 65_535, 65_535, 0], None),
+        TableCase(2, &[5, 0, 10_000, 0], Some(SourceFault::BadFigure(2))),
+        TableCase(2, &[0, 65_534, 65_534, 0], Some(SourceFault::BadFigure(1))),
+        TableCase(2, &[0, 3, 3, 1], Some(SourceFault::BadFigure(3))),
+        TableCase(2, &[0, 3, 4, 0], Some(SourceFault::BadFigure(1))),
+        TableCase(2, &[0, 3, 65_535, 0], Some(SourceFault::BadFigure(1))),
+        TableCase(3, &[0, 1, 2, 1, 0, 1, 2, 1, 0], None),
+        TableCase(3, &[0, 1, 3, 1, 0, 1, 3, 1, 0], Some(SourceFault::BadFigure(2))),
+        TableCase(3, &[0, 1, 65_535, 1, 0, 1, 65_535, 1, 0], Some(SourceFault::BadFigure(2))),
+    ];
+    for case in &cases {
+        check_eq(fault(DistanceTable::new(rt.alloc(), case.0, case.1)), case.2)?;
+    }
+    Ok(())
 }
 
 #[test]
 fn a_map_has_1_to_64_stations_and_at_most_200_pipes(rt: LibcRuntime) -> Result<(), Fail> {
     let many = [Pipe { from: 62, to: 63, length: Km(1) }; 201];
-    check_eq(fault(PipeMap::new(rt.alloc(), 0, &[])), Some(SourceFault::WrongCount))?;
-    check_eq(fault(PipeMap::new(rt.alloc(), 1, &[])), None)?;
-    check_eq(fault(PipeMap::new(rt.alloc(), 64, &many[0..200])), None)?;
-    check_eq(fault(PipeMap::new(rt.alloc(), 64, &many)), Some(SourceFault::WrongCount))?;
-    check_eq(fault(PipeMap::new(rt.alloc(), 65, &[])), Some(SourceFault::WrongCount))
-}
-
-// A map of three stations with a good pipe and then this one.
-fn second(heap: Global, from: u32, to: u32, length: u32) -> Option<SourceFault> {
-    fault(PipeMap::new(heap, 3, &[Pipe { from: 0, to: 1, length: Km(1) }, Pipe { from, to, length: Km(length) }]))
+    let cases = [
+        MapCase(0, &[], Some(SourceFault::WrongCount)),
+        MapCase(1, &[], None),
+        MapCase(64, &many[0..200], None),
+        MapCase(64, &many, Some(SourceFault::WrongCount)),
+        MapCase(65, &[], Some(SourceFault::WrongCount)),
+    ];
+    for case in &cases {
+        check_eq(fault(PipeMap::new(rt.alloc(), case.0, case.1)), case.2)?;
+    }
+    Ok(())
 }
 
 #[test]
 fn a_pipe_joins_two_different_stations_over_1_to_9999_km(rt: LibcRuntime) -> Result<(), Fail> {
-    check_eq(second(rt.alloc(), 2, 0, 9_999), None)?;
-    check_eq(second(rt.alloc(), 3, 0, 1), Some(SourceFault::BadFigure(1)))?;
-    check_eq(second(rt.alloc(), 0, 3, 1), Some(SourceFault::BadFigure(1)))?;
-    check_eq(second(rt.alloc(), 2, 2, 1), Some(SourceFault::BadFigure(1)))?;
-    check_eq(second(rt.alloc(), 0, 2, 0), Some(SourceFault::BadFigure(1)))?;
-    check_eq(second(rt.alloc(), 0, 2, 10_000), Some(SourceFault::BadFigure(1)))
-}
-
-fn link(heap: Global, p: u32, q: u32, length: u32) -> Result<Option<SourceFault>, SourceFault> {
-    let trunk = Trunk::new(heap, &[0, 40, 100])?;
-    Ok(layer_fault(Link::new(trunk, p, q, Km(length))))
+    let good = Pipe { from: 2, to: 0, length: Km(9_999) };
+    let bad = [
+        Pipe { from: 3, to: 0, length: Km(1) },
+        Pipe { from: 0, to: 3, length: Km(1) },
+        Pipe { from: 2, to: 2, length: Km(1) },
+        Pipe { from: 0, to: 2, length: Km(0) },
+        Pipe { from: 0, to: 2, length: Km(10_000) },
+    ];
+    for pipe in &bad {
+        check_eq(fault(PipeMap::new(rt.alloc(), 3, &[good, *pipe])), Some(SourceFault::BadFigure(1)))?;
+    }
+    check_eq(fault(PipeMap::new(rt.alloc(), 3, &[good])), None)
 }
 
 #[test]
 fn a_link_is_refused_for_its_ends_and_then_for_its_length(rt: LibcRuntime) -> Result<(), Fail> {
-    check_eq(link(rt.alloc(), 2, 2, 9_999)?, None)?;
-    check_eq(link(rt.alloc(), 3, 2, 1)?, Some(SourceFault::NoStation))?;
-    check_eq(link(rt.alloc(), 2, 3, 10_000)?, Some(SourceFault::NoStation))?;
-    check_eq(link(rt.alloc(), 0, 2, 10_000)?, Some(SourceFault::BadFigure(0)))
+    let cases = [
+        (2, 2, 9_999, None),
+        (3, 2, 1, Some(SourceFault::NoStation)),
+        (2, 3, 10_000, Some(SourceFault::NoStation)),
+        (0, 2, 10_000, Some(SourceFault::BadFigure(0))),
+    ];
+    for (p, q, length, refusal) in cases {
+        let trunk = Trunk::new(rt.alloc(), &[0, 40, 100])?;
+        check_eq(layer_fault(Link::new(trunk, p, q, Km(length))), refusal)?;
+    }
+    Ok(())
 }
 
 #[test]
@@ -126,28 +152,30 @@ fn four(heap: Global) -> Result<Four, SourceFault> {
     Ok(pairing)
 }
 
-fn eight(heap: Global) -> Result<Eight, SourceFault> {
-    let pairing = Pairing::new(four(heap)?, four(heap)?, 0, 0)?;
-    Ok(pairing)
-}
-
 // 896 stations.
 fn fourteen(heap: Global) -> Result<Fourteen, SourceFault> {
+    let eight = Pairing::new(four(heap)?, four(heap)?, 0, 0)?;
     let six = Pairing::new(four(heap)?, two(heap)?, 0, 0)?;
-    let pairing = Pairing::new(eight(heap)?, six, 0, 0)?;
+    let pairing = Pairing::new(eight, six, 0, 0)?;
     Ok(pairing)
-}
-
-// 896 stations with 64 and then `more` of them, joined at station x of the 960 and y of the others.
-fn thousand(heap: Global, more: &[u32], x: u32, y: u32) -> Result<Option<SourceFault>, SourceFault> {
-    let pairing = Pairing::new(fourteen(heap)?, Trunk::new(heap, &[0; 64])?, 0, 0)?;
-    Ok(layer_fault(Pairing::new(pairing, Trunk::new(heap, more)?, x, y)))
 }
 
 #[test]
 fn a_pairing_is_refused_over_1000_stations_and_then_for_its_exchange_stations(rt: LibcRuntime) -> Result<(), Fail> {
-    check_eq(thousand(rt.alloc(), &[0; 40], 959, 39)?, None)?;
-    check_eq(thousand(rt.alloc(), &[0; 41], 960, 0)?, Some(SourceFault::WrongCount))?;
-    check_eq(thousand(rt.alloc(), &[0; 40], 960, 0)?, Some(SourceFault::NoStation))?;
-    check_eq(thousand(rt.alloc(), &[0; 40], 0, 40)?, Some(SourceFault::NoStation))
+    let more = [0; 41];
+    let cases = [
+        (40, 959, 39, None),
+        (41, 960, 0, Some(SourceFault::WrongCount)),
+        (40, 960, 0, Some(SourceFault::NoStation)),
+        (40, 0, 40, Some(SourceFault::NoStation)),
+    ];
+    for (count, x, y, refusal) in cases {
+        let first = Pairing::new(fourteen(rt.alloc())?, Trunk::new(rt.alloc(), &[0; 64])?, 0, 0);
+        let second = Trunk::new(rt.alloc(), more.get(0..count).unwrap_or(&more))?;
+        match first {
+            Ok(first) => check_eq(layer_fault(Pairing::new(first, second, x, y)), refusal)?,
+            Err(_) => return Err(Fail::new("960 stations were refused")),
+        }
+    }
+    Ok(())
 }
