@@ -13,9 +13,8 @@ use Rattle.terms.specs.Rounding.{nearest}
 use Rattle.terms.proofs.Halves.{nearest-within}
 use Rattle.pricing.specs.declared.basis.Basis.{Basis}
 use Rattle.pricing.specs.declared.figures.SideLots.{SideLots}
-use Rattle.pricing.specs.Limits.{rsd}
 use Rattle.pricing.specs.Shares.{weight, others, HasShares, first-storage, storage-share, left-over, main-share, other-share}
-use Rattle.pricing.specs.Tariffs.{steps, tariff-of, side-of, paid, planned, takings, Weighed, Collects}
+use Rattle.pricing.specs.Tariffs.{steps, rsd, tariff-of, side-of, paid, planned, takings, Weighed, Collects}
 use Rattle.pricing.proofs.Parts.{storage-le, main-le}
 
 -- one element: its tariff lies within half a step of 1,000 × share / lots

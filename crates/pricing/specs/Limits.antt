@@ -9,37 +9,41 @@ most-amount = 10000000
 abbrev pub whole-relief : ℕ
 whole-relief = 10000
 
--- Money is counted in thousands of RSD, and one price step for one lot is 1 RSD.
-abbrev pub rsd : ℕ → ℕ
-rsd amount = 1000 * amount
+-- Money is counted in thousands of RSD, while a price step for one lot is 1 RSD.
+abbrev pub rsd-per-thousand : ℕ
+rsd-per-thousand = 1000
 
--- No tariff is above what one lot would bear that bears a whole allowed revenue.
+-- No tariff is above what a single lot would bear that bears a whole allowed revenue.
 abbrev pub most-tariff : ℕ
-most-tariff = rsd most-amount
+most-tariff = rsd-per-thousand * most-amount
 
--- The last quarter and the last month of a gas year, counted from 0, and the hours of a day.
+-- The last quarter of a gas year, counted from 0.
 abbrev pub last-quarter : ℕ
 last-quarter = 3
 
+-- The last month of a gas year, counted from 0.
 abbrev pub last-month : ℕ
 last-month = 11
 
-abbrev pub day-hours : ℕ
-day-hours = 24
+abbrev pub hours-per-day : ℕ
+hours-per-day = 24
 
--- A multiplier is counted in hundredths. It is at least 1, at most 1.5 for a quarter or a month, and at most 3 for a day or within it.
+-- A multiplier is counted in hundredths: this one is 1, the least of every product.
 abbrev pub multiplier-one : ℕ
 multiplier-one = 100
 
+-- A quarter and a month cost at most 1.5 times their part of the year.
 abbrev pub most-by-month : ℕ
 most-by-month = 150
 
+-- A day and what runs within a day cost at most 3 times their part of the year.
 abbrev pub most-by-day : ℕ
 most-by-day = 300
 
--- A gas year is counted with 365 days; no year has over 366.
+-- The days that a gas year is counted with.
 abbrev pub year-days : ℕ
 year-days = 365
 
+-- No year has more days.
 abbrev pub longest-year : ℕ
 longest-year = 366

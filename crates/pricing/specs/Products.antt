@@ -10,7 +10,7 @@ use Rattle.std.specs.declared.option.Option.the-variants.{Some, None}
 use Rattle.pricing.specs.declared.products.Term.{Term}
 use Rattle.pricing.specs.declared.products.Term.the-variants.{Year, Quarter, Month, Day, Hours}
 use Rattle.pricing.specs.declared.products.Product.{Product}
-use Rattle.pricing.specs.Limits.{last-quarter, last-month, day-hours, multiplier-one, most-by-month, most-by-day}
+use Rattle.pricing.specs.Limits.{last-quarter, last-month, hours-per-day, multiplier-one, most-by-month, most-by-day}
 
 -- Y, Q, M, D and H
 abbrev pub term-letter : Term → ℕ
@@ -42,7 +42,7 @@ last-number Year = 0
 last-number Quarter = last-quarter
 last-number Month = last-month
 last-number Day = 0
-last-number Hours = day-hours
+last-number Hours = hours-per-day
 
 abbrev pub Exists : Product → Type 0
 Exists p = (first-number (p .term) ≤ p .number) × (p .number ≤ last-number (p .term))
@@ -89,4 +89,4 @@ year-in year Year = year
 year-in year Quarter = year
 year-in year Month = year
 year-in year Day = year
-year-in year Hours = day-hours * year
+year-in year Hours = hours-per-day * year

@@ -5,13 +5,15 @@ use Rattle.pricing.specs.declared.basis.Weights.{Weights}
 use Rattle.pricing.specs.declared.basis.Basis.{Basis}
 use Rattle.pricing.specs.Limits.{whole-relief}
 
+-- money, in thousands of RSD
 abbrev pub dinars : ℕ → Dinars ℕ
 dinars n = record { 0 = n }
 
--- Entries get half the allowed revenue, rounded down; exits get the rest.
+-- Entries get half the allowed revenue, rounded down.
 abbrev pub entries-half : ℕ → ℕ
 entries-half allowed = allowed / 2
 
+-- Exits get the rest.
 abbrev pub exits-half : ℕ → ℕ
 exits-half allowed = allowed - entries-half allowed
 
@@ -40,6 +42,7 @@ first-storage b = b .amount .0 * b .storage / weight b
 abbrev pub released : Basis → ℕ
 released b = first-storage b * b .relief / whole-relief
 
+-- what storage keeps
 abbrev pub storage-share : Basis → ℕ
 storage-share b = first-storage b - released b
 
@@ -47,12 +50,14 @@ storage-share b = first-storage b - released b
 abbrev pub left-over : Basis → ℕ
 left-over b = b .amount .0 - storage-share b
 
--- the part of an amount that falls to the main element, the rest of it to the other one
+-- the part of what is left that falls to the main element, by its weight among the two
 abbrev pub main-part : ℕ → ℕ → ℕ → ℕ
 main-part left main other = left * main / (main + other)
 
+-- the share of the main element
 abbrev pub main-share : Basis → ℕ
 main-share b = main-part (left-over b) (b .main) (b .other)
 
+-- the share of the other element: the rest
 abbrev pub other-share : Basis → ℕ
 other-share b = left-over b - main-share b

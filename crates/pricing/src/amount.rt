@@ -29,6 +29,9 @@ pub fn halve(allowed: Dinars<u64>) -> (Dinars<u64>, Dinars<u64>)
 }
 
 impl Amount {
+    // Nothing, which is allowed before the first closing.
+    pub const ZERO: Amount = Amount { dinars: Dinars(0) };
+
     // The amount, or none where it is above the most.
     pub fn new(dinars: Dinars<u64>) -> Option<Amount>
         ensures { λ r. ⌜ Cases r (most-amount < dinars .0) (λ a. a .dinars ≡ dinars) ⌝ }

@@ -20,7 +20,7 @@ pub struct Sharing {
 impl Sharing {
     // The side, or none where it has no exact shares.
     pub fn new(amount: Amount, weights: Weights, relief: Relief) -> Option<Sharing>
-        ensures { λ r. ⌜ Cases r (others (basis (amount .dinars .0) weights (relief .parts)) ≡ 0) (λ s. s .base ≡ basis (amount .dinars .0) weights (relief .parts)) ⌝ }
+        ensures { λ r. ⌜ Cases r (others (basis (amount .dinars .0) weights (relief .parts)) ≡ 0) (λ s. (s .base ≡ basis (amount .dinars .0) weights (relief .parts)) × HasShares (basis (amount .dinars .0) weights (relief .parts))) ⌝ }
     {
         let Weights { main, other, storage } = weights;
         if main == 0 && other == 0 {

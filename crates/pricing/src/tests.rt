@@ -104,6 +104,14 @@ fn half_a_step_goes_up_and_less_goes_down() -> Result<(), Fail> {
 }
 
 #[test]
+fn before_the_first_closing_every_share_is_0() -> Result<(), Fail> {
+    let side = plan((1, 1, 1), (1, 1, 0), 0)?;
+    let figures = draw(Amount::ZERO, side, side)?.figures();
+    check_eq(figures.entries.main, element(0, Some(0)))?;
+    check_eq(figures.exits.storage, element(0, None))
+}
+
+#[test]
 fn an_odd_thousand_goes_to_the_exits() -> Result<(), Fail> {
     let (entries, exits) = halve(Dinars(9_001));
     check_eq(entries, Dinars(4_500))?;
