@@ -5,4 +5,6 @@ pub mod line;
 pub mod numbers;
 pub mod raw;
 pub mod reading;
+#[cfg(test)]
+mod tests;
 pub mod words;
