@@ -1,5 +1,5 @@
 //! The sheet's language: its lines, their words, the numbers that words write, and what a line asks.
-pub mod bytes;
+mod bytes;
 pub mod faults;
 pub mod line;
 pub mod numbers;
