@@ -44,7 +44,8 @@ impl<'a> RawLine<'a> {
     pub fn place(self) -> usize
         ensures { λ r. ⌜ r ≡ self .entry .at ⌝ }
     {
-        self.at
+        let RawLine { at, .. } = self;
+        at
     }
 
     // Whether a line feed ends it.
