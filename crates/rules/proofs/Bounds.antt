@@ -1,13 +1,11 @@
 -- However a run goes, no side passes its limits.
 use Prim.Native.Nat.{ℕ, _+_, _≤_, _<_, zero-le}
 use native.Mathlib.Omega.{arith}
-use mathlib.Core.Path.{_≡_, refl, sym, ap, subst, _∙_}
+use mathlib.Core.Path.{_≡_, refl, sym, subst}
 use mathlib.Core.Bool.{true, cond}
 use mathlib.Core.Logic.{inl, inr}
 use mathlib.Core.List.{List, [], _∷_, _++_}
 use lib.ListN.{length}
-use Rattle.std.specs.Finite.{nth}
-use Rattle.std.specs.declared.option.Option.the-variants.{Some}
 use Rattle.std.proofs.shelf.Lists.{length-push, append-nil}
 use Rattle.std.proofs.shelf.Tests.{cond-both, cases-bool}
 use Rattle.terms.specs.declared.points.Side.{Side}
@@ -54,7 +52,9 @@ relieved s t parts old few l = cond-both (same-side s t) parts old (λ r. r ≤ 
 
 keeps : (net : Net) (p : Plain) (c : Call) → NoneBroken (checks net p c) → ((s : Side) → Bounded p s) → (s : Side) → Bounded (after p c) s
 keeps net p (Open u k at) g h s =
-    let o = opened s (p .points) (new-point u k at) refl (λ c. subst (λ t. most-points t ≤ length (on-side t (p .points)) → ⊥) (side-is s u c) (g .1 .0)) (h s .points, h s .lots) in
+    let room : same-side s u ≡ true → most-points s ≤ length (on-side s (p .points)) → ⊥ =
+        λ c. subst (λ t. most-points t ≤ length (on-side t (p .points)) → ⊥) (side-is s u c) (g .1 .0) in
+    let o = opened s (p .points) (new-point u k at) refl room (h s .points, h s .lots) in
     record { points = o .0; lots = o .1; relief = h s .relief }
 keeps net p (Plan n lots) g h s =
     let o = replanned s (p .points) n (lots .0) (g .0) (g .1 .0) (h s .points, h s .lots) in

@@ -1,7 +1,7 @@
 -- Both sides weigh the same: each the sum over all pairs of an entry and an exit.
-use Prim.Native.Nat.{ℕ, _*_, _<_}
+use Prim.Native.Nat.{ℕ, _*_}
 use native.Mathlib.Omega.{arith}
-use mathlib.Core.Path.{_≡_, refl, sym, ap, _∙_}
+use mathlib.Core.Path.{_≡_, sym, ap, _∙_}
 use mathlib.Core.List.{List}
 use Rattle.terms.specs.declared.points.Side.{Side}
 use Rattle.terms.specs.declared.points.Side.the-variants.{Entry, Exit}

@@ -8,4 +8,5 @@ pub mod Sums
 pub mod Elements
 pub mod Reached
 pub mod Levels
+pub mod Drafted
 pub mod Promised

@@ -1,9 +1,8 @@
 -- A call has one outcome, and leaves one book.
-use mathlib.Core.Path.{_≡_, refl, ap}
+use mathlib.Core.Path.{refl, ap}
 use Rattle.std.specs.declared.result.Result.the-variants.{Err}
-use Rattle.terms.specs.Faults.{book-refusal}
 use Rattle.terms.proofs.Rulings.{not-both, first-one}
-use Rattle.rules.specs.Plain.{checks, Handles, refused, accepted}
+use Rattle.rules.specs.Plain.{checks, refused, accepted}
 use Rattle.rules.specs.Laws.{Settled}
 use Rattle.rules.proofs.Faults.{same-fault}
 

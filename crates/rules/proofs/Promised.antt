@@ -1,49 +1,31 @@
 -- Whatever run over a lawful source leads to a book, all is kept that is promised of it.
-use Prim.Native.Nat.{ℕ, zero, suc, _+_, _-_, _*_, _/_, _≤_, _<_}
-use native.Mathlib.Omega.{arith}
-use mathlib.Core.Path.{_≡_, refl, ap, subst, _∙_}
-use mathlib.Core.Bool.{Bool, true, false, cond}
-use mathlib.Core.Logic.{_⊎_, inl, inr}
-use mathlib.Core.List.{List, [], _∷_}
-use Rattle.std.proofs.shelf.Tests.{cases-lt, cond-both}
-use Rattle.std.specs.declared.result.Result.the-variants.{Ok, Err}
-use Rattle.terms.specs.declared.points.Side.{Side}
-use Rattle.terms.specs.declared.points.Side.the-variants.{Entry, Exit}
-use Rattle.terms.specs.declared.points.Kind.{Kind}
-use Rattle.terms.specs.declared.points.Kind.the-variants.{Storage}
-use Rattle.terms.specs.declared.faults.BookFault.the-variants.{NoEntryShares, NoExitShares}
+use Prim.Native.Nat.{ℕ}
+use mathlib.Core.Path.{subst}
+use mathlib.Core.List.{List}
+use lib.ListN.{take}
 use Rattle.terms.specs.Refusals.{NoneBroken}
 use Rattle.network.specs.Net.{Net, Lawful}
 use Rattle.revenue.specs.Law as closings
 use Rattle.revenue.specs.Law.{Accepted}
 use Rattle.revenue.proofs.Balances.{balance}
-use Rattle.pricing.specs.Shares.{others, entries-half, exits-half}
-use Rattle.pricing.specs.Tariffs as tariffs
-use Rattle.pricing.specs.Tariffs.{Weighed, SidePromised, Collects}
-use Rattle.pricing.specs.Drafts.{figures-of}
-use Rattle.pricing.specs.Drafts as drafts
-use Rattle.pricing.proofs.Sides.{side-promised}
-use Rattle.pricing.proofs.Drawn as drawn
 use Rattle.rules.specs.declared.calls.Call.{Call}
 use Rattle.rules.specs.declared.calls.Call.the-variants.{Open, Plan, Relieve, Close, Draw}
-use Rattle.rules.specs.declared.calls.Answer.the-variants.{Drawn}
-use Rattle.rules.specs.Points.{Point, Plain, on-side, lots-of}
-use Rattle.rules.specs.Weights.{main-kind, other-kind, same-kind, sum-by, reach, side-lots, basis-of, drawing}
-use Rattle.rules.specs.Plain.{Outcome, checks, after, Handles, refused, accepted}
-use Rattle.rules.specs.Runs.{History, Led}
-use Rattle.rules.specs.Promises.{Bounded, HasExactShares, side-in, collected, Drafted, Draws, given, no-entry-shares, no-exit-shares, Drawable, Promised, Known}
+use Rattle.rules.specs.Points.{Plain}
+use Rattle.rules.specs.Plain.{Outcome, checks, after}
+use Rattle.rules.specs.Runs.{History, Led, paired}
+use Rattle.rules.specs.Promises.{Known}
 use Rattle.rules.specs.Laws.{Promises}
-use Rattle.rules.proofs.Outcomes.{settled}
-use Rattle.rules.proofs.Histories.{always}
-use Rattle.rules.proofs.Sides.{sides-lots}
+use Rattle.rules.proofs.Histories.{always, paired-take, led-take}
 use Rattle.rules.proofs.Bounds.{bounded}
-use Rattle.rules.proofs.Elements.{Fitting, fitting, planned-is}
+use Rattle.rules.proofs.Elements.{fitting}
 use Rattle.rules.proofs.Reached.{reached, light}
 use Rattle.rules.proofs.Levels.{level, averaged}
+use Rattle.rules.proofs.Drafted.{drawable}
 
--- ---- closings
-
-closed-by : (net : Net) (p : Plain) (c : Call) → NoneBroken (checks net p c) → Accepted (p .closings) (p .carried) → Accepted (after p c .closings) (after p c .carried)
+-- a closing goes on from those before it, and no other call touches them
+closed-by :
+    (net : Net) (p : Plain) (c : Call) → NoneBroken (checks net p c) → Accepted (p .closings) (p .carried) →
+    Accepted (after p c .closings) (after p c .carried)
 closed-by net p (Open s k at) g a = a
 closed-by net p (Plan n lots) g a = a
 closed-by net p (Relieve s parts) g a = a
@@ -52,58 +34,6 @@ closed-by net p Draw g a = a
 
 closed : (net : Net) (h : History) (p : Plain) → Led net h p → Accepted (p .closings) (p .carried)
 closed net = always net (λ p. Accepted (p .closings) (p .carried)) closings.none (closed-by net)
-
--- ---- drafts
-
--- an element without lots has no weight
-idle-one : (t : Bool) (lots far lots-left weight-left : ℕ) → cond t lots 0 + lots-left ≡ 0 → (lots-left ≡ 0 → weight-left ≡ 0) → cond t (lots * far) 0 + weight-left ≡ 0
-idle-one true lots far l w e rest =
-    let none : lots ≡ 0 = omega arith in
-    omega (arith, ap (λ n. n * far) none, rest (omega arith))
-idle-one false lots far l w e rest = omega (arith, rest (omega arith))
-
-idle :
-    (net : Net) (k : Kind) (others own : List Point) → sum-by (λ q. q .kind) (λ q. q .lots) k own ≡ 0 →
-    sum-by (λ q. q .kind) (λ q. q .lots * reach net (q .station) others) k own ≡ 0
-idle net k others [] e = refl
-idle net k others (q ∷ qs) e = idle-one (same-kind k (q .kind)) (q .lots) (reach net (q .station) others) _ _ e (idle net k others qs)
-
-weighed : (net : Net) (p : Plain) (s : Side) → Weighed (basis-of net p s) (side-lots (p .points) s)
-weighed net p s = record { main = idle net (main-kind s) _ _; other = idle net (other-kind s) _ _; storage = idle net Storage _ _ }
-
-module _ (net : Net) (p : Plain) (fits : Fitting (p .points)) (bounds : (s : Side) → Bounded p s) where
-  sides :
-      HasExactShares net p Entry → HasExactShares net p Exit → (s : Side) →
-      SidePromised (basis-of net p s) (side-lots (p .points) s) (side-in (figures-of (drawing net p)) s)
-  sides e x Entry = side-promised (basis-of net p Entry) (side-lots (p .points) Entry) e (bounds Entry .relief)
-  sides e x Exit = side-promised (basis-of net p Exit) (side-lots (p .points) Exit) x (bounds Exit .relief)
-
-  drafted : HasExactShares net p Entry → HasExactShares net p Exit → Drafted net p (figures-of (drawing net p))
-  drafted e x =
-      let both = drawn.promised (drawing net p) (figures-of (drawing net p)) (omega arith) (sides e x Entry) (sides e x Exit) in
-      let got = both .collects (weighed net p Entry) (weighed net p Exit) in
-      let lots : tariffs.planned (side-lots (p .points) Entry) + tariffs.planned (side-lots (p .points) Exit) ≡ lots-of (p .points) =
-          omega (arith, planned-is net p fits Entry, planned-is net p fits Exit, sides-lots (p .points)) in
-      record {
-        whole = both .whole;
-        revenue = subst (λ n. Collects (p .allowed) n (collected (figures-of (drawing net p)) p)) lots got;
-        near = λ s. sides e x s .near;
-        methodical = λ s. sides e x s .methodical }
-
-  -- a draw that is handled as told is drawable, since it is handled in one way
-  drawable-by : (o : Outcome) → Draws net p o → Handles net p Draw o p → Drawable net p
-  drawable-by o d h = record { outcome = o; draws = d; handled = h; only = λ o′ p′ h′. settled net p Draw o′ o p′ p h′ h }
-
-  drawable : Drawable net p
-  drawable =
-      elim (cases-lt 0 (others (basis-of net p Entry))) [
-        inl e ↦
-          elim (cases-lt 0 (others (basis-of net p Exit))) [
-            inl x ↦ drawable-by _ (given e x (drafted e x)) (accepted ((λ z. omega arith), ((λ z. omega arith), tt)))
-          | inr n ↦ drawable-by _ (no-exit-shares e (λ z. omega arith)) (refused (inr ((λ z. omega arith), inl (omega arith, refl)))) ]
-      | inr n ↦ drawable-by _ (no-entry-shares (λ z. omega arith)) (refused (inl (omega arith, refl))) ]
-
--- ---- the promises
 
 pub promised : Promises
 promised net lawful h p led =
@@ -123,3 +53,11 @@ promised net lawful h p led =
 
 pub known : (net : Net) → Lawful net → (h : History) (p : Plain) → Led net h p → Known net h
 known net lawful h p led = record { book = p; led = led; promised = promised net lawful h p led }
+
+-- and so it is at every point of a run
+pub known-take :
+    (net : Net) → Lawful net → (cs : List Call) (os : List Outcome) (p : Plain) → Led net (paired cs os) p → (k : ℕ) →
+    Known net (paired (take k cs) (take k os))
+known-take net lawful cs os p led k =
+    let s = led-take net (paired cs os) p led k in
+    known net lawful (paired (take k cs) (take k os)) (s .0) (subst (λ h. Led net h (s .0)) (paired-take k cs os) (s .1))

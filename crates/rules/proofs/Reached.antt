@@ -1,7 +1,6 @@
 -- Every two open points of opposite sides have a distance within the farthest, and so no side is too heavy.
 use Prim.Native.Nat.{ℕ, _+_, _*_, _≤_, _<_}
 use native.Mathlib.Omega.{arith}
-use native.Mathlib.Nat.{mul-le-mul}
 use mathlib.Core.Path.{_≡_, refl, sym, ap, subst, _∙_}
 use mathlib.Core.Logic.{_⊎_, inl, inr}
 use mathlib.Core.List.{List, [], _∷_, _++_, List·Memᴰ, List·Memᴰ·not-nil}
@@ -16,7 +15,7 @@ use Rattle.rules.specs.declared.calls.Call.{Call}
 use Rattle.rules.specs.declared.calls.Call.the-variants.{Open, Plan, Relieve, Close, Draw}
 use Rattle.rules.specs.Limits.{most-lots, farthest, most-weight}
 use Rattle.rules.specs.Points.{Point, new-point, Plain, opposite, on-side, lots-of}
-use Rattle.rules.specs.Weights.{km, reach, sum-of, basis-of}
+use Rattle.rules.specs.Weights.{km, reach, basis-of}
 use Rattle.rules.specs.Plain.{planned, checks, after}
 use Rattle.rules.specs.Runs.{History, Led}
 use Rattle.rules.specs.Promises.{Reached, Bounded}
@@ -80,19 +79,23 @@ module _ (net : Net) (lawful : Lawful net) where
 -- ---- how heavy a side can be
 
 -- within these distances a station's reach is at most the lots at the farthest
-reach-below : (net : Net) (at : ℕ) (qs : List Point) → ((q : Point) → List·Memᴰ q qs → Near net at (q .station)) → reach net at qs ≤ lots-of qs * farthest
+reach-below :
+    (net : Net) (at : ℕ) (qs : List Point) → ((q : Point) → List·Memᴰ q qs → Near net at (q .station)) → reach net at qs ≤ lots-of qs * farthest
 reach-below net at qs near =
     sum-below (λ q. km (net .distance at (q .station))) farthest qs
     (λ q m. let w = near q m in subst (λ o. km o ≤ farthest) (sym (w .1)) (w .2))
 
 pub light :
-    (net : Net) (p : Plain) → Fitting (p .points) → Reached net (p .points) → ((s : Side) → Bounded p s) → (s : Side) → weight (basis-of net p s) ≤ most-weight
+    (net : Net) (p : Plain) → Fitting (p .points) → Reached net (p .points) → ((s : Side) → Bounded p s) →
+    (s : Side) → weight (basis-of net p s) ≤ most-weight
 light net p fits all bounds s =
     let others = on-side (opposite s) (p .points) in
     let few : (q : Point) → List·Memᴰ q (on-side s (p .points)) → reach net (q .station) others ≤ most-lots * farthest =
         λ q m.
         let a = mem-side s (p .points) q m in
-        let r = reach-below net (q .station) others (λ x k. let b = mem-side (opposite s) (p .points) x k in all q x (a .0) (b .0) (b .1 ∙ ap opposite (sym (a .1)))) in
+        let near : (x : Point) → List·Memᴰ x others → Near net (q .station) (x .station) =
+            λ x k. let b = mem-side (opposite s) (p .points) x k in all q x (a .0) (b .0) (b .1 ∙ ap opposite (sym (a .1))) in
+        let r = reach-below net (q .station) others near in
         omega (arith, r, bounds (opposite s) .lots) in
     let k = sum-below (λ q. reach net (q .station) others) (most-lots * farthest) (on-side s (p .points)) few in
     omega (arith, weight-is net p fits s, k, bounds s .lots)

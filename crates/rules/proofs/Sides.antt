@@ -1,7 +1,7 @@
 -- The points of a side, after an opening and after a plan.
-use Prim.Native.Nat.{ℕ, zero, suc, _+_, _≤_, _<_}
+use Prim.Native.Nat.{ℕ, zero, suc, _+_, _<_}
 use native.Mathlib.Omega.{arith}
-use mathlib.Core.Path.{_≡_, refl, sym, ap, _∙_}
+use mathlib.Core.Path.{_≡_, refl, sym, ap, subst, _∙_}
 use mathlib.Core.Bool.{Bool, true, false, cond}
 use mathlib.Core.Logic.{_⊎_, inl, inr}
 use mathlib.Core.List.{List, [], _∷_, _++_, List·Memᴰ, List·Memᴰ·head, List·Memᴰ·tail, List·Memᴰ·not-nil, List·Memᴰ·cases-cons}
@@ -12,7 +12,6 @@ use Rattle.std.proofs.shelf.Tests.{eq-eqb, ne-eqb, cond-false, cond-both}
 use Rattle.std.specs.declared.option.Option.the-variants.{Some}
 use Rattle.terms.specs.declared.points.Side.{Side}
 use Rattle.terms.specs.declared.points.Side.the-variants.{Entry, Exit}
-use Rattle.terms.specs.declared.points.Kind.{Kind}
 use Rattle.rules.specs.Points.{Point, with-lots, same-side, on-side, lots-of}
 use Rattle.rules.specs.Plain.{planned}
 
@@ -53,7 +52,9 @@ nth-there (q ∷ qs) zero l = (q, refl)
 nth-there (q ∷ qs) (suc n) l = nth-there qs n (omega arith)
 
 module _ (n lots : ℕ) where
-  planned-if : (b : ℕ) (q : Point) (qs : List Point) (t : Bool) → eqb b n ≡ t → planned b n lots (q ∷ qs) ≡ cond t (with-lots lots q) q ∷ planned (suc b) n lots qs
+  planned-if :
+      (b : ℕ) (q : Point) (qs : List Point) (t : Bool) → eqb b n ≡ t →
+      planned b n lots (q ∷ qs) ≡ cond t (with-lots lots q) q ∷ planned (suc b) n lots qs
   planned-if b q qs t e = ap (λ z. cond z (with-lots lots q) q ∷ planned (suc b) n lots qs) e
 
   pub planned-here : (b : ℕ) (q : Point) (qs : List Point) → b ≡ n → planned b n lots (q ∷ qs) ≡ with-lots lots q ∷ planned (suc b) n lots qs
@@ -68,20 +69,21 @@ module _ (n lots : ℕ) where
       planned-if b q qs false (ne-eqb b n (λ e. omega arith)) ∙ ap (λ rest. q ∷ rest) (planned-past (suc b) qs (omega arith))
 
   -- a side keeps its number of points
-  head-length : (t : Bool) (y q : Point) (xs ys : List Point) → length xs ≡ length ys → length (cond t (y ∷ xs) xs) ≡ length (cond t (q ∷ ys) ys)
-  head-length true y q xs ys e = ap suc e
-  head-length false y q xs ys e = e
+  length-more : (t : Bool) (y q : Point) (xs ys : List Point) → length xs ≡ length ys → length (cond t (y ∷ xs) xs) ≡ length (cond t (q ∷ ys) ys)
+  length-more true y q xs ys e = ap suc e
+  length-more false y q xs ys e = e
 
   pub planned-length : (b : ℕ) (s : Side) (qs : List Point) → length (on-side s (planned b n lots qs)) ≡ length (on-side s qs)
   planned-length b s [] = refl
   planned-length b s (q ∷ qs) =
-      let more : (y : Point) → length (cond (same-side s (q .side)) (y ∷ on-side s (planned (suc b) n lots qs)) (on-side s (planned (suc b) n lots qs))) ≡ length (on-side s (q ∷ qs)) =
-          λ y. head-length (same-side s (q .side)) y q _ _ (planned-length (suc b) s qs) in
+      let rest = planned-length (suc b) s qs in
       cond-both (eqb b n) (with-lots lots q) q (λ y. length (on-side s (y ∷ planned (suc b) n lots qs)) ≡ length (on-side s (q ∷ qs)))
-      (λ _. more (with-lots lots q)) (λ _. more q)
+      (λ _. length-more (same-side s (q .side)) (with-lots lots q) q _ _ rest) (λ _. length-more (same-side s (q .side)) q q _ _ rest)
 
   -- a plan leaves the points of the other side
-  pub planned-other : (b : ℕ) (s : Side) (qs : List Point) (k : ℕ) (q : Point) → n ≡ b + k → nth qs k ≡ Some q → same-side s (q .side) ≡ false → on-side s (planned b n lots qs) ≡ on-side s qs
+  pub planned-other :
+      (b : ℕ) (s : Side) (qs : List Point) (k : ℕ) (q : Point) → n ≡ b + k → nth qs k ≡ Some q → same-side s (q .side) ≡ false →
+      on-side s (planned b n lots qs) ≡ on-side s qs
   planned-other b s [] k q e f c = refl
   planned-other b s (x ∷ qs) zero q e f c =
       let is : x ≡ q = cc in
@@ -101,16 +103,19 @@ pub record Stood (q : Point) (qs : List Point) : Type 0 where
   pub kind : q .kind ≡ point .kind
   pub station : q .station ≡ point .station
 
+stood-first : (t : Bool) (lots : ℕ) (y : Point) (qs : List Point) → Stood (cond t (with-lots lots y) y) (y ∷ qs)
+stood-first true lots y qs = record { point = y; there = List·Memᴰ·head refl; side = refl; kind = refl; station = refl }
+stood-first false lots y qs = record { point = y; there = List·Memᴰ·head refl; side = refl; kind = refl; station = refl }
+
+stood-later : (q y : Point) (qs : List Point) → Stood q qs → Stood q (y ∷ qs)
+stood-later q y qs s = record { point = s .point; there = List·Memᴰ·tail (s .there); side = s .side; kind = s .kind; station = s .station }
+
 pub mem-planned : (b n lots : ℕ) (qs : List Point) (q : Point) → List·Memᴰ q (planned b n lots qs) → Stood q qs
 mem-planned b n lots [] q m = absurd (List·Memᴰ·not-nil m)
 mem-planned b n lots (y ∷ qs) q m =
     elim (List·Memᴰ·cases-cons m) [
-      inl e ↦
-        cond-both (eqb b n) (with-lots lots y) y (λ z. q ≡ z → Stood q (y ∷ qs))
-        (λ _ i. record { point = y; there = List·Memᴰ·head refl; side = ap (λ (z : Point). z .side) i; kind = ap (λ (z : Point). z .kind) i; station = ap (λ (z : Point). z .station) i })
-        (λ _ i. record { point = y; there = List·Memᴰ·head refl; side = ap (λ (z : Point). z .side) i; kind = ap (λ (z : Point). z .kind) i; station = ap (λ (z : Point). z .station) i })
-        e
-    | inr k ↦ let s = mem-planned (suc b) n lots qs q k in record { point = s .point; there = List·Memᴰ·tail (s .there); side = s .side; kind = s .kind; station = s .station } ]
+      inl e ↦ subst (λ z. Stood z (y ∷ qs)) (sym e) (stood-first (eqb b n) lots y qs)
+    | inr k ↦ stood-later q y qs (mem-planned (suc b) n lots qs q k) ]
 
 -- ---- the points of a side, and those of both
 
@@ -125,12 +130,12 @@ mem-side s (y ∷ qs) q m =
     (λ c k. let r = mem-side s qs q k in (List·Memᴰ·tail (r .0), r .1))
     m
 
+lots-more :
+    (t : Side) (q : Point) (es xs : List Point) →
+    lots-of (cond (same-side Entry t) (q ∷ es) es) + lots-of (cond (same-side Exit t) (q ∷ xs) xs) ≡ q .lots + (lots-of es + lots-of xs)
+lots-more Entry q es xs = omega arith
+lots-more Exit q es xs = omega arith
+
 pub sides-lots : (qs : List Point) → lots-of (on-side Entry qs) + lots-of (on-side Exit qs) ≡ lots-of qs
 sides-lots [] = refl
-sides-lots (q ∷ qs) = by (q .side) (sides-lots qs)
-  where
-    by :
-        (t : Side) → lots-of (on-side Entry qs) + lots-of (on-side Exit qs) ≡ lots-of qs →
-        lots-of (cond (same-side Entry t) (q ∷ on-side Entry qs) (on-side Entry qs)) + lots-of (cond (same-side Exit t) (q ∷ on-side Exit qs) (on-side Exit qs)) ≡ q .lots + lots-of qs
-    by Entry e = omega arith
-    by Exit e = omega arith
+sides-lots (q ∷ qs) = lots-more (q .side) q (on-side Entry qs) (on-side Exit qs) ∙ ap (λ n. q .lots + n) (sides-lots qs)

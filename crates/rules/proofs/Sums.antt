@@ -25,7 +25,8 @@ module _ {X : Type 0} where
   sum-plus f g (x ∷ xs) = omega (arith, sum-plus f g xs)
 
 -- row by row is column by column
-pub sum-swap : {X Y : Type 0} (f : X → Y → ℕ) (xs : List X) (ys : List Y) → sum-of (λ x. sum-of (f x) ys) xs ≡ sum-of (λ y. sum-of (λ x. f x y) xs) ys
+pub sum-swap :
+    {X Y : Type 0} (f : X → Y → ℕ) (xs : List X) (ys : List Y) → sum-of (λ x. sum-of (f x) ys) xs ≡ sum-of (λ y. sum-of (λ x. f x y) xs) ys
 sum-swap f [] ys = sym (sum-zero ys)
 sum-swap f (x ∷ xs) ys = ap (λ n. sum-of (f x) ys + n) (sum-swap f xs ys) ∙ sym (sum-plus (f x) (λ y. sum-of (λ z. f z y) xs) ys)
 
@@ -36,7 +37,8 @@ sum-lots [] = refl
 sum-lots (q ∷ qs) = ap (λ n. q .lots + n) (sum-lots qs)
 
 -- lots times figures, none of them above b
-pub sum-below : (f : Point → ℕ) (b : ℕ) (qs : List Point) → ((q : Point) → List·Memᴰ q qs → f q ≤ b) → sum-of (λ q. q .lots * f q) qs ≤ lots-of qs * b
+pub sum-below :
+    (f : Point → ℕ) (b : ℕ) (qs : List Point) → ((q : Point) → List·Memᴰ q qs → f q ≤ b) → sum-of (λ q. q .lots * f q) qs ≤ lots-of qs * b
 sum-below f b [] few = omega arith
 sum-below f b (q ∷ qs) few =
     omega (arith, mul-le-mul-left (q .lots) (few q (List·Memᴰ·head refl)), sum-below f b qs (λ x m. few x (List·Memᴰ·tail m)))

@@ -4,7 +4,7 @@ use native.Mathlib.Omega.{arith}
 use mathlib.Core.Path.{_≡_, refl, sym, ap, subst, _∙_}
 use mathlib.Core.Bool.{Bool, true, false}
 use mathlib.Core.Logic.{_⊎_, inl, inr}
-use mathlib.Core.List.{List, [], _∷_, List·Memᴰ, List·Memᴰ·head, List·Memᴰ·tail, List·Memᴰ·not-nil, List·Memᴰ·cases-cons}
+use mathlib.Core.List.{List, [], _∷_, List·Memᴰ·head, List·Memᴰ·tail, List·Memᴰ·not-nil, List·Memᴰ·cases-cons}
 use lib.IntN.{ℤ}
 use lib.Signed.{_<ℤ_, ltZ}
 use Rattle.std.specs.Finite.{nth}
@@ -28,7 +28,7 @@ use Rattle.rules.specs.declared.calls.Call.the-variants.{Open, Plan, Relieve, 
 use Rattle.rules.specs.Limits.{most-lots, farthest}
 use Rattle.rules.specs.Points.{Point, Plain, opposite, on-side, lots-of}
 use Rattle.rules.specs.Weights.{km}
-use Rattle.rules.specs.Plain.{Outcome, Opposite, Overplanned, planned, checks, answered, after, Handles, refused, accepted}
+use Rattle.rules.specs.Plain.{Opposite, Overplanned, planned, checks, answered, after, refused, accepted}
 use Rattle.rules.specs.Laws.{Total}
 
 abbrev Decided : Type 0 → Type 0

@@ -3,7 +3,6 @@ use Prim.Native.Nat.{ℕ, _+_, _*_, _≤_, _<_}
 use mathlib.Core.Path.{_≡_}
 use mathlib.Core.List.{List, List·Memᴰ}
 use lib.ListN.{length}
-use lib.IntN.{ℤ, _+ℤ_}
 use Rattle.std.specs.declared.option.Option.the-variants.{Some}
 use Rattle.std.specs.declared.result.Result.the-variants.{Ok, Err}
 use Rattle.terms.specs.declared.points.Side.{Side}
@@ -82,7 +81,8 @@ pub record Drafted (net : Net) (p : Plain) (f : TariffFigures) : Type 0 where
 -- What a draw comes back with: the six shares and tariffs that the rules define on the book's figures, with what is promised of
 -- them, or the refusal of the first side that has no exact shares.
 pub data Draws (net : Net) (p : Plain) : Outcome → Type 0 where
-  given : HasExactShares net p Entry → HasExactShares net p Exit → Drafted net p (figures-of (drawing net p)) → Draws net p (Ok (Drawn (figures-of (drawing net p))))
+  given : HasExactShares net p Entry → HasExactShares net p Exit → Drafted net p (figures-of (drawing net p))
+      → Draws net p (Ok (Drawn (figures-of (drawing net p))))
   no-entry-shares : (HasExactShares net p Entry → ⊥) → Draws net p (Err NoEntryShares)
   no-exit-shares : HasExactShares net p Entry → (HasExactShares net p Exit → ⊥) → Draws net p (Err NoExitShares)
 
