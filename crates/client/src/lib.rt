@@ -28,7 +28,11 @@ use terms::points::Kind;
 use terms::points::Side;
 
 // The shares of a side's main element, its other one and storage.
-pub fn shares(amount: Amount, weights: Weights, relief: Relief) -> Option<(Dinars<u64>, Dinars<u64>, Dinars<u64>)>
+pub fn shares(
+    amount: Amount,
+    weights: Weights,
+    relief: Relief,
+) -> Option<(Dinars<u64>, Dinars<u64>, Dinars<u64>)>
     ensures { λ r. ⌜ Cases r (weights .main + weights .other ≡ 0) (λ s. s .0 .0 + s .1 .0 + s .2 .0 ≡ amount .dinars .0) ⌝ }
 {
     let Some(side) = Sharing::new(amount, weights, relief) else {
@@ -40,7 +44,13 @@ pub fn shares(amount: Amount, weights: Weights, relief: Relief) -> Option<(Dinar
 }
 
 // What a draft would charge for a product, once it is approved.
-pub fn approved_price(draft: Draft, side: Side, kind: Kind, product: Product, multiplier: u32) -> Result<PriceSteps, BookFault>
+pub fn approved_price(
+    draft: Draft,
+    side: Side,
+    kind: Kind,
+    product: Product,
+    multiplier: u32,
+) -> Result<PriceSteps, BookFault>
     ensures { λ r. ⌜ Ruled book-refusal (price-rules (draft .figures) side kind product multiplier) (steps (price-in year-days multiplier (steps-of (tariff-in (draft .figures) side kind)) product)) r ⌝ }
 {
     let decision = draft.approve();

@@ -23,9 +23,9 @@ element-collects share lots z =
     cond-both (eqb (lots .0) 0) None (Some (steps (nearest (rsd share) (lots .0)))) (λ t. Collects share (lots .0) (paid t lots))
     (λ e. let k : share ≡ 0 = z (eqb-true (lots .0) 0 e) in record { high = omega arith; low = omega arith })
     (λ e.
-       let p : 0 < lots .0 = omega (arith, eqb-false (lots .0) 0 e) in
-       let w = nearest-within (rsd share) (lots .0) p in
-       record { high = omega (arith, w .high); low = omega (arith, w .low) })
+    let p : 0 < lots .0 = omega (arith, eqb-false (lots .0) 0 e) in
+    let w = nearest-within (rsd share) (lots .0) p in
+    record { high = omega (arith, w .high); low = omega (arith, w .low) })
 
 -- an element of weight 0 has no share
 no-main : (b : Basis) → b .main ≡ 0 → main-share b ≡ 0

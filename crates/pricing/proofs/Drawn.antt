@@ -19,10 +19,11 @@ promised d f halves e x =
       exits = x;
       whole = omega (arith, e .whole, x .whole);
       collects =
-        λ v w.
-        let g = e .collects v in
-        let h = x .collects w in
-        record { high = omega (arith, g .high, h .high); low = omega (arith, g .low, h .low) } }
+          λ v w.
+          let g = e .collects v in
+          let h = x .collects w in
+          record { high = omega (arith, g .high, h .high); low = omega (arith, g .low, h .low) };
+    }
 
 -- of the figures that a draw is defined to give
 pub figures-promised :

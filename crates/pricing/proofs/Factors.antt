@@ -48,17 +48,20 @@ module _ (b : Basis) (some : HasShares b) (relieved : b .relief ≤ whole-relief
         first = pos (exact-storage b .under) (others b) (scale-pos b some relieved) some;
         second = rw one-mul (pos W _ w-pos (pos (whole-relief * W) _ (scale-pos b some relieved) (pos W _ w-pos sum-pos)));
         equal =
-          other-equal (b .amount .0) (b .main) (b .other) (b .storage) w (b .relief) (whole-relief - b .relief) X
-          (b .amount .0 * exact-storage b .under - exact-storage b .over) (others b) W
-          (omega arith) refl refl x (omega (arith, ap (λ y. b .amount .0 * y) x)) }
+            other-equal (b .amount .0) (b .main) (b .other) (b .storage) w (b .relief) (whole-relief - b .relief) X
+            (b .amount .0 * exact-storage b .under - exact-storage b .over) (others b) W
+            (omega arith) refl refl x (omega (arith, ap (λ y. b .amount .0 * y) x));
+      }
 
 pub methodical : (b : Basis) → HasShares b → b .relief ≤ whole-relief → Methodical b
 methodical b some relieved =
     record {
       storage =
-        record {
-          first = scale-pos b some relieved;
-          second = let d = scale-pos b some relieved in omega arith;
-          equal = storage-equal (b .amount .0) (whole-relief - b .relief) (b .storage) (weight b) (1 * whole-relief - b .relief * 1) (omega arith) };
+          record {
+            first = scale-pos b some relieved;
+            second = let d = scale-pos b some relieved in omega arith;
+            equal = storage-equal (b .amount .0) (whole-relief - b .relief) (b .storage) (weight b) (1 * whole-relief - b .relief * 1) (omega arith);
+          };
       main = by-factor b some relieved (b .main);
-      other = by-factor b some relieved (b .other) }
+      other = by-factor b some relieved (b .other);
+    }

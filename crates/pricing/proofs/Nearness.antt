@@ -34,7 +34,8 @@ other-near R D N S V w x left E l e a b h d p q =
     let low : E ≤ left * D + D = omega arith in
     record {
       high = omega (arith, mul-lt-mul-of-pos-right p d, mul-le-mul-right w up, mul-le-mul-left D h);
-      low = omega (arith, mul-lt-mul-of-pos-right q d, mul-le-mul-right w low, mul-le-mul-left D h) }
+      low = omega (arith, mul-lt-mul-of-pos-right q d, mul-le-mul-right w low, mul-le-mul-left D h);
+    }
 
 module _ (b : Basis) (some : HasShares b) (relieved : b .relief ≤ whole-relief) where
   w-pos : 0 < weight b
@@ -79,6 +80,6 @@ module _ (b : Basis) (some : HasShares b) (relieved : b .relief ≤ whole-relief
   near-other =
       let m : other-share b + main-share b ≡ left-over b = omega (arith, main-le b) in
       let e : other-share b * others b + main-share b * others b ≡ left-over b * b .main + left-over b * b .other =
-          omega (arith, ap (λ y. y * others b) m) in
+      omega (arith, ap (λ y. y * others b) m) in
       near-by-weight (b .other) (other-share b) (omega arith)
       (omega (arith, e, lt-div-mul-add {a = left-over b * b .main} some)) (omega (arith, e, some, div-mul-le-self (left-over b * b .main) (others b)))

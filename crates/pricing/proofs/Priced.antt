@@ -18,9 +18,10 @@ use Rattle.pricing.specs.Prices.{price-in, PriceLaw}
 within-whole : (t d q : ℕ) → 0 < d → Within (t * d) d q → q ≡ t
 within-whole t d q h w =
     elim (cases-order q t) [
-      inl e ↦ e
-    | inr (inl l) ↦ omega (arith, mul-le-mul-right d l, w .low)
-    | inr (inr g) ↦ omega (arith, mul-le-mul-right d g, w .high) ]
+      | inl e ↦ e
+      | inr (inl l) ↦ omega (arith, mul-le-mul-right d l, w .low)
+      | inr (inr g) ↦ omega (arith, mul-le-mul-right d g, w .high)
+    ]
 
 nearest-whole : (t d : ℕ) → 0 < d → nearest (t * d) d ≡ t
 nearest-whole t d h = within-whole t d (nearest (t * d) d) h (nearest-within (t * d) d h)
@@ -42,4 +43,5 @@ pub price-law : (year m tariff : ℕ) (p : Product) → 0 < year → PriceLaw ye
 price-law year m tariff p h =
     record {
       near = nearest-within (m * tariff * runs-in year (p .term) (p .number)) (multiplier-one * year-in year (p .term)) (year-pos year (p .term) h);
-      yearly = year-is year m tariff (p .number) (p .term) h }
+      yearly = year-is year m tariff (p .number) (p .term) h;
+    }

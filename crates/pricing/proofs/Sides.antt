@@ -14,7 +14,7 @@ use Rattle.pricing.proofs.Collected.{whole-shares, side-collects}
 
 -- what a release of b hands on
 module _ (b : Basis) (relieved : b .relief ≤ whole-relief) (before freed main other : ℕ)
-  (was : before ≡ b .amount .0 - first-storage b) (is : freed ≡ released b) (m : main ≡ b .main) (p : other ≡ b .other) where
+    (was : before ≡ b .amount .0 - first-storage b) (is : freed ≡ released b) (m : main ≡ b .main) (p : other ≡ b .other) where
   left : before + freed ≡ left-over b
   left = ap (λ x. x + freed) was ∙ ap (λ x. (b .amount .0 - first-storage b) + x) is ∙ left-is b relieved
 
@@ -30,4 +30,5 @@ side-promised b l some relieved =
       whole = whole-shares b;
       near = record { main = near-main b some relieved; other = near-other b some relieved; storage = near-storage b some relieved };
       methodical = methodical b some relieved;
-      collects = side-collects b l some }
+      collects = side-collects b l some;
+    }

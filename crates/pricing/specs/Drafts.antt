@@ -28,7 +28,8 @@ drawing-of allowed e x =
       entries = basis (entries-half allowed) (e .weights) (e .relief .parts);
       entry-lots = e .lots;
       exits = basis (exits-half allowed) (x .weights) (x .relief .parts);
-      exit-lots = x .lots }
+      exit-lots = x .lots;
+    }
 
 -- Entries without exact shares are refused first, then exits without: their weights other than storage's are all 0.
 abbrev pub draw-rules : Drawing → List Rule
@@ -46,5 +47,5 @@ pub record Promised (d : Drawing) (f : TariffFigures) : Type 0 where
   pub exits : SidePromised (d .exits) (d .exit-lots) (f .exits)
   pub whole : shared (f .entries) + shared (f .exits) ≡ d .allowed
   pub collects :
-    Weighed (d .entries) (d .entry-lots) → Weighed (d .exits) (d .exit-lots) →
-    Collects (d .allowed) (planned (d .entry-lots) + planned (d .exit-lots)) (takings (f .entries) (d .entry-lots) + takings (f .exits) (d .exit-lots))
+      Weighed (d .entries) (d .entry-lots) → Weighed (d .exits) (d .exit-lots) →
+      Collects (d .allowed) (planned (d .entry-lots) + planned (d .exit-lots)) (takings (f .entries) (d .entry-lots) + takings (f .exits) (d .exit-lots))

@@ -40,7 +40,8 @@ side-of b l =
     record {
       main = element-of (main-share b) (l .main);
       other = element-of (other-share b) (l .other);
-      storage = element-of (storage-share b) (l .storage) }
+      storage = element-of (storage-share b) (l .storage);
+    }
 
 -- what the shares of a side add up to
 abbrev pub shared : SideFigures → ℕ

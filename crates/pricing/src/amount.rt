@@ -36,7 +36,11 @@ impl Amount {
     pub fn new(dinars: Dinars<u64>) -> Option<Amount>
         ensures { λ r. ⌜ Cases r (most-amount < dinars .0) (λ a. a .dinars ≡ dinars) ⌝ }
     {
-        if dinars.0 > MOST_AMOUNT { None } else { Some(Amount { dinars }) }
+        if dinars.0 > MOST_AMOUNT {
+            None
+        } else {
+            Some(Amount { dinars })
+        }
     }
 
     pub fn get(self) -> Dinars<u64>

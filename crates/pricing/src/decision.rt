@@ -63,6 +63,8 @@ impl Draft {
     pub fn approve(self) -> Approved
         ensures { λ r. ⌜ r .figures ≡ self .figures ⌝ }
     {
-        Approved { figures: self.figures }
+        Approved {
+            figures: self.figures,
+        }
     }
 }

@@ -9,6 +9,5 @@ pub mod release;
 pub mod relief;
 pub mod sharing;
 pub mod tariffs;
-
 #[cfg(test)]
 mod tests;

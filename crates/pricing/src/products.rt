@@ -6,14 +6,21 @@ ghost use Rattle.terms.specs.Letters.{Spells};
 ghost use Rattle.pricing.specs.Limits.{last-quarter, last-month, longest-year};
 ghost use Rattle.pricing.specs.Products.{term-letter, term-of, Exists, NoSuch, InRange, OutOfRange, month-days, quarter-days, runs-in, year-in};
 
-// The last quarter and month of a gas year, counted from 0.
+// The last quarter of a gas year, counted from 0.
 const LAST_QUARTER: u32 = 3;
+
+// The last month of a gas year, counted from 0.
 const LAST_MONTH: u32 = 11;
+
 const HOURS_PER_DAY: u32 = 24;
 
-// Multipliers are in hundredths: 1 at least, and at most 1.5 for quarters and months, 3 for days and within the day.
+// A multiplier of 1, in hundredths: the least of every product.
 pub const MULTIPLIER_ONE: u32 = 100;
+
+// The largest multiplier of quarters and months.
 const MOST_BY_MONTH: u32 = 150;
+
+// The largest multiplier of a day and of what runs within a day.
 const MOST_BY_DAY: u32 = 300;
 
 const MONTHS_PER_QUARTER: u32 = 3;

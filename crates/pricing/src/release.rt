@@ -39,10 +39,28 @@ pub fn storage_share(side: Sharing) -> (Dinars<u64>, Release)
     ensures whole { λ r. ⌜ r .0 .0 + (r .1 .before + r .1 .freed) ≡ side .base .amount .0 ⌝ }
 {
     let Sharing { base } = side;
-    let Basis { amount, main, other, storage, relief } = base;
-    let first = part(amount.0, storage, main as u128 + other as u128 + storage as u128);
+    let Basis {
+        amount,
+        main,
+        other,
+        storage,
+        relief,
+    } = base;
+    let first = part(
+        amount.0,
+        storage,
+        main as u128 + other as u128 + storage as u128,
+    );
     let freed = part(first, relief as u64, WHOLE_RELIEF as u128);
-    (Dinars(first - freed), Release { before: amount.0 - first, freed, main, other })
+    (
+        Dinars(first - freed),
+        Release {
+            before: amount.0 - first,
+            freed,
+            main,
+            other,
+        },
+    )
 }
 
 // Hands the release on: with what was never storage's it is split between the main element and the other one, by their weights.
@@ -51,7 +69,12 @@ pub fn hand_on(release: Release) -> (Dinars<u64>, Dinars<u64>)
     ensures other { λ r. ⌜ r .1 .0 ≡ release .before + release .freed - main-part (release .before + release .freed) (release .main) (release .other) ⌝ }
     ensures whole { λ r. ⌜ r .0 .0 + r .1 .0 ≡ release .before + release .freed ⌝ }
 {
-    let Release { before, freed, main, other } = release;
+    let Release {
+        before,
+        freed,
+        main,
+        other,
+    } = release;
     let left = before + freed;
     let first = part(left, main, main as u128 + other as u128);
     (Dinars(first), Dinars(left - first))

@@ -21,7 +21,11 @@ impl Relief {
     pub fn new(parts: u32) -> Option<Relief>
         ensures { λ r. ⌜ Cases r (whole-relief < parts) (λ x. x .parts ≡ parts) ⌝ }
     {
-        if parts > WHOLE_RELIEF { None } else { Some(Relief { parts }) }
+        if parts > WHOLE_RELIEF {
+            None
+        } else {
+            Some(Relief { parts })
+        }
     }
 
     pub fn get(self) -> u32

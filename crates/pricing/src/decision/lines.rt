@@ -27,7 +27,11 @@ impl Line {
         ensures kind { λ r. ⌜ r .kind ≡ kind ⌝ }
         ensures element { λ r. ⌜ r .element ≡ element ⌝ }
     {
-        Line { side, kind, element }
+        Line {
+            side,
+            kind,
+            element,
+        }
     }
 }
 
@@ -60,6 +64,9 @@ impl Approved {
         let local = Line::of(Side::Exit, Kind::Local, exits.main);
         let interconnector = Line::of(Side::Exit, Kind::Interconnector, exits.other);
         let to_storage = Line::of(Side::Exit, Kind::Storage, exits.storage);
-        format!(heap, "{transmission}{production}{from_storage}{local}{interconnector}{to_storage}")
+        format!(
+            heap,
+            "{transmission}{production}{from_storage}{local}{interconnector}{to_storage}"
+        )
     }
 }

@@ -56,7 +56,13 @@ fn short_price(tariff: PriceSteps, product: Product, multiplier: u32, year: u64)
 }
 
 // The price, or the first rule that it breaks.
-fn priced(figures: TariffFigures, side: Side, kind: Kind, product: Product, multiplier: u32) -> Result<PriceSteps, BookFault>
+fn priced(
+    figures: TariffFigures,
+    side: Side,
+    kind: Kind,
+    product: Product,
+    multiplier: u32,
+) -> Result<PriceSteps, BookFault>
     requires entries { ⌜ highest (figures .entries) ≤ most-tariff ⌝ }
     requires exits { ⌜ highest (figures .exits) ≤ most-tariff ⌝ }
     ensures { λ r. ⌜ Ruled book-refusal (price-rules figures side kind product multiplier) (steps (price-in year-days multiplier (steps-of (tariff-in figures side kind)) product)) r ⌝ }
@@ -78,7 +84,13 @@ fn priced(figures: TariffFigures, side: Side, kind: Kind, product: Product, mult
 
 impl Approved {
     // The price of an element's capacity for a product, at a multiplier in hundredths.
-    pub fn price(&self, side: Side, kind: Kind, product: Product, multiplier: u32) -> Result<PriceSteps, BookFault>
+    pub fn price(
+        &self,
+        side: Side,
+        kind: Kind,
+        product: Product,
+        multiplier: u32,
+    ) -> Result<PriceSteps, BookFault>
         ensures priced { λ r. ⌜ Ruled book-refusal (price-rules (now (self .entry) .figures) side kind product multiplier) (steps (price-in year-days multiplier (steps-of (tariff-in (now (self .entry) .figures) side kind)) product)) r ⌝ }
         ensures lawful { λ _. ⌜ ((year : ℕ) → 0 < year → PriceLaw year multiplier (steps-of (tariff-in (now (self .entry) .figures) side kind)) product) ⌝ }
     {

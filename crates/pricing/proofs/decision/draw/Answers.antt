@@ -25,10 +25,12 @@ returns c =
     let p-is = c .side-figures .ensures .value ∙ ap (λ b. side-of b (e .lots)) of-entries in
     let q-is = c .side-figures-2 .ensures .value ∙ ap (λ b. side-of b (x .lots)) of-exits in
     record {
-      drawn =
-        ( ( (λ z. omega (arith, some)), ((λ z. omega (arith, others)), tt) ),
-          ap (λ s. figures s q) p-is ∙ ap (figures (side-of (d .entries) (e .lots))) q-is );
+      drawn = (
+        ((λ z. omega (arith, some)), ((λ z. omega (arith, others)), tt)),
+        ap (λ s. figures s q) p-is ∙ ap (figures (side-of (d .entries) (e .lots))) q-is,
+      );
       promised =
-        promised d (figures p q) (omega arith)
-        (subst (λ b. SidePromised b (e .lots) p) of-entries (c .side-figures .ensures .promised))
-        (subst (λ b. SidePromised b (x .lots) q) of-exits (c .side-figures-2 .ensures .promised)) }
+          promised d (figures p q) (omega arith)
+          (subst (λ b. SidePromised b (e .lots) p) of-entries (c .side-figures .ensures .promised))
+          (subst (λ b. SidePromised b (x .lots) q) of-exits (c .side-figures-2 .ensures .promised));
+    }

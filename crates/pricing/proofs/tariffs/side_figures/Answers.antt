@@ -25,10 +25,11 @@ returns c =
     let main = h .main ∙ main-is b (side .relieved) (release .before) (release .freed) (release .main) (release .other) (k .before) (k .freed) (k .main) (k .other) in
     let other = h .other ∙ other-is b (side .relieved) (release .before) (release .freed) (release .main) (release .other) (k .before) (k .freed) (k .main) (k .other) in
     let value : _≡_ {A = SideFigures} (record { main = c .element .result; other = c .element-2 .result; storage = c .element-3 .result }) (side-of b lots) =
-        joined (c .element .ensures .value ∙ ap (λ x. element-of x (lots .main)) main)
-        (c .element-2 .ensures .value ∙ ap (λ x. element-of x (lots .other)) other)
-        (c .element-3 .ensures .value ∙ ap (λ x. element-of x (lots .storage)) (k .kept)) in
+    joined (c .element .ensures .value ∙ ap (λ x. element-of x (lots .main)) main)
+    (c .element-2 .ensures .value ∙ ap (λ x. element-of x (lots .other)) other)
+    (c .element-3 .ensures .value ∙ ap (λ x. element-of x (lots .storage)) (k .kept)) in
     record {
       value = value;
       promised = subst (SidePromised b lots) (sym value) (side-promised b lots (side .shared) (side .relieved));
-      bound = omega (arith, c .element .ensures .bound, c .element-2 .ensures .bound, c .element-3 .ensures .bound) }
+      bound = omega (arith, c .element .ensures .bound, c .element-2 .ensures .bound, c .element-3 .ensures .bound);
+    }
