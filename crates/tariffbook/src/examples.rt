@@ -43,7 +43,7 @@ fn network(heap: Global) -> Result<Link<Pairing<Trunk, PipeMap>>, SourceFault> {
     Ok(link)
 }
 
-pub fn show_distances(rt: &LibcRuntime) -> Result<(), AnyError> {
+pub(crate) fn show_distances(rt: &LibcRuntime) -> Result<(), AnyError> {
     match network(rt.alloc()) {
         Ok(source) => {
             rt.print(distance_table(rt.alloc(), &source)?)?;
@@ -94,7 +94,7 @@ fn decided(rt: &LibcRuntime, draft: Draft) -> Result<(), AnyError> {
     }
 }
 
-pub fn show_tariffs(rt: &LibcRuntime) -> Result<(), AnyError> {
+pub(crate) fn show_tariffs(rt: &LibcRuntime) -> Result<(), AnyError> {
     match draft() {
         Some(draft) => decided(rt, draft),
         None => Err("the built-in draw was refused".into()),
