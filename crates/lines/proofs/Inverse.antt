@@ -22,7 +22,6 @@ use Rattle.std.proofs.shelf.Equals.{sameBytes-decides}
 use Rattle.std.proofs.shelf.Tests.{eqb-true, le-leb}
 use Rattle.std.proofs.shelf.Lists.{length-append}
 use Rattle.revenue.specs.declared.figures.Figures.{Figures}
-use Rattle.terms.specs.declared.faults.ClosingFigure.the-variants.{Operating, Depreciation, Assets, Rate, Delivered, Loss, GasPrice, NonStandard, OtherRevenue, Justified, Realised, Index}
 use Rattle.lines.specs.declared.faults.SheetFault.{SheetFault}
 use Rattle.lines.specs.declared.faults.SheetFault.the-variants.{UnknownWord, BadNumber, WordCount, TooLong}
 use Rattle.lines.specs.declared.line.Verb.{Verb}
@@ -30,9 +29,9 @@ use Rattle.lines.specs.declared.line.Verb.the-variants.{Close}
 use Rattle.lines.specs.Bytes.{Text, space, Lacks}
 use Rattle.lines.specs.Closings.{amounts, closing-words, AsksFor, ReadsClosing}
 use Rattle.lines.specs.Lines.{Raw}
-use Rattle.lines.specs.Numbers.{number-of, signed-of, Writes, WritesSigned, Reads}
-use Rattle.lines.specs.Reading.{bind, DueOrNoMemory, whole, verb-of, Command, close, asked, command-of, figure-word, closing-of, figures-of, close-of, read-close}
-use Rattle.lines.specs.Words.{words, spaced, MakeLine}
+use Rattle.lines.specs.Numbers.{number-of, signed-of, Writes, WritesSigned}
+use Rattle.lines.specs.Reading.{bind, DueOrNoMemory, whole, verb-of, Command, close, asked, command-of, closing-of, figures-of, close-of, read-close}
+use Rattle.lines.specs.Words.{words, spaced}
 use Rattle.lines.proofs.Decimals.{reads, reads-signed, decimal-digits, decimal-short}
 use Rattle.lines.proofs.Digits.{digit-le}
 use Rattle.lines.proofs.Splits.{words-of}

@@ -1,5 +1,5 @@
 -- The lines of a sheet: the first of them, and that they alone make it up.
-use mathlib.Core.Path.{_≡_, refl, sym, ap, subst, _∙_}
+use mathlib.Core.Path.{_≡_, refl, sym, ap, _∙_}
 use mathlib.Core.Bool.{Bool, true, false, cond}
 use mathlib.Core.List.{List, [], _∷_, _++_}
 use mathlib.Core.Logic.{⊎-elim}
@@ -12,7 +12,7 @@ use Rattle.std.specs.shelf.Lists.{All}
 use Rattle.std.proofs.shelf.Lists.{length-drop, drop-drop, take-all, drop-all}
 use Rattle.std.proofs.shelf.Tests.{cases-lt, lt-ltb, le-ltb, eqb-true, eqb-false, ne-eqb}
 use Rattle.lines.specs.Bytes.{Text, line-feed, before, part, Lacks}
-use Rattle.lines.specs.Lines.{Raw, raw, lines, with-byte, joined-lines, Ended, MakeSheet, LinesOf}
+use Rattle.lines.specs.Lines.{Raw, raw, lines, with-byte, joined-lines, Ended, LinesOf}
 
 -- the line before the first line feed, and the lines after it
 lines-more : (bs : Text) → length (before 10 bs) < length bs → lines bs ≡ raw (take (length (before 10 bs)) bs) true ∷ lines (drop (suc (length (before 10 bs))) bs)

@@ -1,5 +1,5 @@
 -- The words of a line: the first of them, and that they alone make it up.
-use mathlib.Core.Path.{_≡_, refl, sym, ap, subst, _∙_}
+use mathlib.Core.Path.{_≡_, refl, sym, ap, _∙_}
 use mathlib.Core.Bool.{Bool, true, false, cond}
 use mathlib.Core.List.{List, [], _∷_, _++_}
 use Prim.Native.Nat.{ℕ, suc, _+_, _<_, _≤_}
@@ -11,7 +11,7 @@ use Rattle.std.specs.shelf.Lists.{All}
 use Rattle.std.proofs.shelf.Lists.{length-drop, drop-drop, length-take-le, take-all, append-assoc}
 use Rattle.std.proofs.shelf.Tests.{eqb-true, eqb-false, ne-eqb}
 use Rattle.lines.specs.Bytes.{Text, space, before, Lacks}
-use Rattle.lines.specs.Words.{words, onto-first, placed, spaced, MakeLine, WordsOf}
+use Rattle.lines.specs.Words.{words, onto-first, placed, spaced, WordsOf}
 
 -- the first word, and the words after its space
 words-more : (bs : Text) → length (before 32 bs) < length bs → words bs ≡ take (length (before 32 bs)) bs ∷ words (drop (suc (length (before 32 bs))) bs)

@@ -1,4 +1,3 @@
-use borrow.Author.Needs.{needs}
 use native.Mathlib.Omega.{arith}
 use Rattle.lines.proofs.Cuts.{before-hit, before-miss}
 use Rattle.lines.specs.Bytes.{before}

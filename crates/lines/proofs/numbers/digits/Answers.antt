@@ -1,12 +1,9 @@
-use mathlib.Core.Path.{_≡_, sym, ap, _∙_}
-use mathlib.Core.Bool.{true}
+use mathlib.Core.Path.{sym, ap, _∙_}
 use Prim.Native.Nat.{_≤_, _+_, _*_}
 use native.Mathlib.Omega.{arith}
 use native.Mathlib.Nat.{pow-le-pow-right}
 use lib.ListN.{getD, drop}
 use Rattle.std.proofs.shelf.Lists.{at-drop-all}
-use Rattle.std.proofs.shelf.Ways.{tells}
-use Rattle.std.specs.Text.{asciiDigit}
 use Rattle.lines.specs.Numbers.{read-on}
 use Rattle.lines.proofs.Digits.{read-digit, read-other, below-ten, digit-le}
 use Rattle.lines.proofs.numbers.digits.Needs as need
