@@ -149,12 +149,18 @@ fn a_link_is_refused_for_its_ends_and_then_for_its_length(rt: LibcRuntime) -> Re
 }
 
 #[test]
-fn a_refused_link_hands_its_source_back(rt: LibcRuntime) -> Result<(), Fail> {
+fn a_refused_layer_hands_back_what_it_was_to_stand_on(rt: LibcRuntime) -> Result<(), Fail> {
     let trunk = Trunk::new(rt.alloc(), &[0, 40, 100])?;
-    match Link::new(trunk, 0, 3, Km(1)) {
-        Ok(_) => Err(Fail::new("station 3 was taken")),
-        Err(back) => check_eq(back.below.stations(), 3),
-    }
+    let back = match Link::new(trunk, 0, 3, Km(1)) {
+        Ok(_) => return Err(Fail::new("station 3 was taken")),
+        Err(back) => back.below,
+    };
+    let (first, second) = match Pairing::new(back, Trunk::new(rt.alloc(), &[0, 25])?, 2, 2) {
+        Ok(_) => return Err(Fail::new("station 2 of the second was taken")),
+        Err(back) => back.below,
+    };
+    check_eq(first.stations(), 3)?;
+    check_eq(second.stations(), 2)
 }
 
 type Two = Pairing<Trunk, Trunk>;
