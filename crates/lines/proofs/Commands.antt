@@ -6,7 +6,6 @@ use Prim.Native.Nat.{ℕ, _<_, _≤_}
 use native.Mathlib.Omega.{arith}
 use lib.ListN.{length, getD, drop}
 use Rattle.std.specs.Options.{okOr}
-use Rattle.std.specs.declared.option.Option.the-variants.{Some}
 use Rattle.std.specs.declared.result.Result.{Result}
 use Rattle.std.specs.declared.result.Result.the-variants.{Ok, Err}
 use Rattle.std.proofs.shelf.Lists.{length-map}
@@ -31,11 +30,11 @@ pub close-miscounted : (n : ℕ) (v : Verb) (ws : List Word) → (length ws ≡ 
 close-miscounted n Close ws h = sym (cond-false _ _ _ (ne-eqb _ _ (λ e. h (sym (length-map ws text-of) ∙ e))))
 
 -- what the first word and the rest of a line ask
-pub first-asks : (n : ℕ) (ws rest : List Word) (d : Word) (v : Verb) (r : Result Command SheetFault) → 0 < length ws → Some v ≡ verb-of (text-of (getD ws 0 d)) → rest ≡ drop 1 ws
+pub first-asks : (n : ℕ) (ws rest : List Word) (d : Word) (v : Verb) (r : Result Command SheetFault) → 0 < length ws → Ok v ≡ okOr (verb-of (text-of (getD ws 0 d))) (UnknownWord n) → rest ≡ drop 1 ws
     → r ≡ asked n v (map text-of rest) → r ≡ command-of n (map text-of ws)
 first-asks n [] rest d v r some is left e = absurd (omega arith)
 first-asks n (w ∷ ws) rest d v r some is left e =
-    e ∙ ap (λ l. asked n v (map text-of l)) left ∙ ap (λ o. bind (okOr o (UnknownWord n)) (λ x. asked n x (map text-of ws))) is
+    e ∙ ap (λ l. asked n v (map text-of l)) left ∙ ap (λ o. bind o (λ x. asked n x (map text-of ws))) is
 
 pub none-ask : (n : ℕ) (ws : List Word) → length ws ≡ 0 → command-of n (map text-of ws) ≡ Err (UnknownWord n)
 none-ask n [] h = refl

@@ -66,6 +66,12 @@ number-decimal n few =
     let shape : shapely (decimal n) ≡ true = grind (arith, tells, lead) in
     number-is (decimal n) ∙ rw (shape, digits-decimal own n fits, value-decimal own n fits)
 
+pub decimal-digits : (n : ℕ) → n < 1000000000 → allDigits (decimal n) ≡ true
+decimal-digits n few = digits-decimal own n (omega arith)
+
+pub decimal-short : (n : ℕ) → n < 1000000000 → length (decimal n) ≤ 9
+decimal-short n few = length-decimal-le 9 n (omega arith) few (omega arith)
+
 pub reads : (w : Text) → Reads Writes w (number-of w)
 reads w = record { only = written w; all = λ n h. ap number-of (h .digits) ∙ number-decimal n (h .small) }
 

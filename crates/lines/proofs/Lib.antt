@@ -5,3 +5,4 @@ pub mod Places
 pub mod Digits
 pub mod Decimals
 pub mod Commands
+pub mod Inverse

@@ -7,3 +7,4 @@ pub mod Numbers
 pub mod Seen
 pub mod Reading
 pub mod Meant
+pub mod Closings

@@ -65,8 +65,6 @@ pub fn parse<'a>(words: &'a [Word<'a>], n: usize) -> Result<Line<'a>, SheetFault
     let [first, rest @ ..] = words else {
         return Err(SheetFault::UnknownWord(n));
     };
-    let Some(verb) = read_verb(first.text) else {
-        return Err(SheetFault::UnknownWord(n));
-    };
+    let verb = read_verb(first.text).ok_or(SheetFault::UnknownWord(n))?;
     shape(verb, rest, n)
 }

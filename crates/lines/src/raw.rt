@@ -31,7 +31,7 @@ pub fn line_at(sheet: &[u8], at: usize) -> Option<RawLine<'_>>
 
 impl<'a> RawLine<'a> {
     // Its bytes, without the line feed.
-    pub fn bytes(self) -> &'a [u8]
+    pub(crate) fn bytes(self) -> &'a [u8]
         ensures { λ r. ⌜ now r ≡ bytes-of (self .entry) ⌝ }
     {
         let from = self.at.min(self.sheet.len());
@@ -41,10 +41,11 @@ impl<'a> RawLine<'a> {
     }
 
     // Where it begins in its sheet.
-    pub fn place(self) -> usize
+    pub(crate) fn place(self) -> usize
         ensures { λ r. ⌜ r ≡ self .entry .at ⌝ }
     {
-        self.at
+        let RawLine { at, .. } = self;
+        at
     }
 
     // Whether a line feed ends it.

@@ -2,6 +2,7 @@
 ghost use mathlib.Core.Path.{_≡_};
 ghost use mathlib.Core.List.{[], map};
 ghost use lib.ListN.{getD};
+ghost use Rattle.lines.specs.Closings.{ReadsClosing};
 ghost use Rattle.lines.specs.Meant.{meaning};
 ghost use Rattle.lines.specs.Reading.{figure-of, signed-figure-of, closing-of, figures-of, read-close, sheet-fits, DueOrNoMemory};
 ghost use Rattle.lines.specs.Seen.{text-of, raw-of};
@@ -106,7 +107,8 @@ pub fn figures(line: Line<'_>, n: usize) -> Result<Figures, SheetFault>
 
 // The figures of the closing that line `n` asks for.
 pub fn read_close(heap: Global, line: RawLine<'_>, n: usize) -> Result<Figures, SheetFault>
-    ensures { λ r. ⌜ DueOrNoMemory (read-close n (raw-of (line .entry))) r ⌝ }
+    ensures due { λ r. ⌜ DueOrNoMemory (read-close n (raw-of (line .entry))) r ⌝ }
+    ensures law { λ r. ⌜ ReadsClosing (raw-of (line .entry)) r ⌝ }
 {
     if !line.ended() || line.bytes().len() > LONGEST_LINE {
         return Err(SheetFault::TooLong(n));

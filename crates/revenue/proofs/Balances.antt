@@ -47,7 +47,7 @@ limited carried f =
             inl h ↦ omega (arith, h)
           | inr h ↦ absurd (ne (omega (arith, ints, h))) ] }
 
-balance : (closings : List Closing) (carried : ℤ) → Accepted closings carried → Balanced closings carried
+pub balance : (closings : List Closing) (carried : ℤ) → Accepted closings carried → Balanced closings carried
 balance closings carried none = record { adds = refl; limits = tt }
 balance closings carried (next {before} {carried = was} {f} a n) =
     let b = balance before was a in

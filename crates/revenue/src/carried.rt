@@ -1,6 +1,6 @@
 ghost use mathlib.Core.Path.{_≡_};
 ghost use Prim.Native.Nat.{_≤_, _<_};
-ghost use lib.IntN.{natAbs};
+ghost use lib.IntN.{pos, natAbs};
 ghost use Rattle.std.specs.Options.{Cases};
 ghost use Rattle.revenue.specs.Limits.{most-carried};
 use terms::measures::Dinars;
@@ -23,6 +23,13 @@ impl Carried {
             return None;
         }
         Some(Carried { amount })
+    }
+
+    // Nothing is carried on to the first period.
+    pub fn nothing() -> Carried
+        ensures { λ r. ⌜ r .amount .0 ≡ pos 0 ⌝ }
+    {
+        Carried { amount: Dinars(0) }
     }
 
     pub fn amount(self) -> Dinars<i64>

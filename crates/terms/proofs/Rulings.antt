@@ -1,5 +1,5 @@
 -- Rules after rules.
-use mathlib.Core.Path.{_≡_}
+use mathlib.Core.Path.{_≡_, sym, _∙_}
 use mathlib.Core.Logic.{inl, inr}
 use mathlib.Core.List.{List, [], _∷_, _++_}
 use Rattle.std.specs.declared.result.Result.{Result}
@@ -27,8 +27,16 @@ pub ruled-back : {T E : Type 0} (told : E → Refusal) (xs ys : List Rule) (due 
 ruled-back told xs ys due (Ok x) n b = (none-append xs ys n (b .0), b .1)
 ruled-back told xs ys due (Err e) n b = first-back xs ys (told e) n b
 
--- not both
+-- rules are not both broken and unbroken
 pub not-both : (xs : List Rule) (told : Refusal) → FirstBroken xs told → NoneBroken xs → ⊥
 not-both [] told b n = b
 not-both (x ∷ xs) told (inl h) n = n .0 (h .0)
 not-both (x ∷ xs) told (inr h) n = not-both xs told (h .1) (n .1)
+
+-- the first broken rule has one refusal
+pub first-one : (xs : List Rule) (a b : Refusal) → FirstBroken xs a → FirstBroken xs b → a ≡ b
+first-one [] a b p q = absurd p
+first-one (x ∷ xs) a b (inl p) (inl q) = p .1 ∙ sym (q .1)
+first-one (x ∷ xs) a b (inl p) (inr q) = absurd (q .0 (p .0))
+first-one (x ∷ xs) a b (inr p) (inl q) = absurd (p .0 (q .0))
+first-one (x ∷ xs) a b (inr p) (inr q) = first-one xs a b (p .1) (q .1)

@@ -1,0 +1,11 @@
+pub mod Limits
+pub mod Shares
+pub mod Fractions
+pub mod Exact
+pub mod Methodology
+pub mod Tariffs
+pub mod Rules
+pub mod Drafts
+pub mod Products
+pub mod Prices
+pub mod Lines
