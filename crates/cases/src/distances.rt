@@ -1,5 +1,6 @@
 use crate::tables::Row;
 use crate::tables::gives;
+use crate::tables::pipe;
 use network::figures::figures_of;
 use network::link::Link;
 use network::link::LinkSource;
@@ -7,7 +8,6 @@ use network::map::PipeMap;
 use network::map::PipeMapSource;
 use network::pairing::Pairing;
 use network::pairing::PairingSource;
-use network::pipe::Pipe;
 use network::refused::FaultFromLayer;
 use network::source::Source;
 use network::table::DistanceTable;
@@ -40,10 +40,10 @@ fn ring(heap: Global) -> Result<PipeMap, SourceFault> {
         heap,
         5,
         &[
-            Pipe { from: 0, to: 1, length: Km(10) },
-            Pipe { from: 1, to: 2, length: Km(20) },
-            Pipe { from: 3, to: 2, length: Km(5) },
-            Pipe { from: 3, to: 0, length: Km(50) },
+            pipe(0, 1, 10),
+            pipe(1, 2, 20),
+            pipe(3, 2, 5),
+            pipe(3, 0, 50),
         ],
     )
 }
@@ -51,7 +51,7 @@ fn ring(heap: Global) -> Result<PipeMap, SourceFault> {
 // A trunk, at its last station a map of one pipe, and a link between the ends.
 fn pile(heap: Global) -> Result<Link<Pairing<Trunk, PipeMap>>, SourceFault> {
     let trunk = Trunk::new(heap, &[0, 40])?;
-    let map = PipeMap::new(heap, 2, &[Pipe { from: 0, to: 1, length: Km(30) }])?;
+    let map = PipeMap::new(heap, 2, &[pipe(0, 1, 30)])?;
     let pairing = Pairing::new(trunk, map, 1, 0)?;
     let link = Link::new(pairing, 0, 3, Km(50))?;
     Ok(link)
@@ -59,28 +59,63 @@ fn pile(heap: Global) -> Result<Link<Pairing<Trunk, PipeMap>>, SourceFault> {
 
 #[test]
 fn a_link_shortens_what_goes_over_it(rt: LibcRuntime) -> Result<(), Fail> {
-    gives(&linked(rt.alloc())?, &[Row(0, 2, Some(70)), Row(1, 2, Some(60)), Row(0, 1, Some(40)), Row(0, 3, None)])
+    gives(
+        &linked(rt.alloc())?,
+        &[
+            Row(0, 2, Some(70)),
+            Row(1, 2, Some(60)),
+            Row(0, 1, Some(40)),
+            Row(0, 3, None),
+        ],
+    )
 }
 
 #[test]
 fn a_pairing_meets_at_the_exchange_station(rt: LibcRuntime) -> Result<(), Fail> {
-    gives(&paired(rt.alloc())?, &[Row(0, 4, Some(125)), Row(2, 3, Some(0)), Row(0, 2, Some(100)), Row(3, 4, Some(25)), Row(4, 5, None)])
+    gives(
+        &paired(rt.alloc())?,
+        &[
+            Row(0, 4, Some(125)),
+            Row(2, 3, Some(0)),
+            Row(0, 2, Some(100)),
+            Row(3, 4, Some(25)),
+            Row(4, 5, None),
+        ],
+    )
 }
 
 #[test]
 fn of_two_routes_the_shorter_counts(rt: LibcRuntime) -> Result<(), Fail> {
-    gives(&ring(rt.alloc())?, &[Row(0, 3, Some(35)), Row(0, 2, Some(30)), Row(1, 3, Some(25)), Row(3, 3, Some(0))])
+    gives(
+        &ring(rt.alloc())?,
+        &[
+            Row(0, 3, Some(35)),
+            Row(0, 2, Some(30)),
+            Row(1, 3, Some(25)),
+            Row(3, 3, Some(0)),
+        ],
+    )
 }
 
 #[test]
 fn without_a_route_there_is_no_distance(rt: LibcRuntime) -> Result<(), Fail> {
-    gives(&ring(rt.alloc())?, &[Row(0, 4, None), Row(4, 4, Some(0)), Row(4, 5, None)])
+    gives(
+        &ring(rt.alloc())?,
+        &[Row(0, 4, None), Row(4, 4, Some(0)), Row(4, 5, None)],
+    )
 }
 
 #[test]
 fn a_long_route_stands_at_the_longest_distance(rt: LibcRuntime) -> Result<(), Fail> {
-    let pipes = [Pipe { from: 0, to: 1, length: Km(9_999) }, Pipe { from: 1, to: 2, length: Km(1) }];
-    gives(&PipeMap::new(rt.alloc(), 3, &pipes)?, &[Row(0, 1, Some(9_999)), Row(0, 2, Some(9_999)), Row(1, 2, Some(1))])
+    let pipes = [pipe(0, 1, 9_999), pipe(1, 2, 1)];
+    gives(
+        &PipeMap::new(rt.alloc(), 3, &pipes)?,
+        &[
+            Row(0, 1, Some(9_999)),
+            Row(0, 2, Some(9_999)),
+            Row(1, 2, Some(1)),
+        ],
+    )
 }
 
 #[test]
@@ -99,5 +134,8 @@ fn a_map_and_the_table_of_its_distances_agree(rt: LibcRuntime) -> Result<(), Fai
 #[test]
 fn layers_stand_on_layers(rt: LibcRuntime) -> Result<(), Fail> {
     let figures = figures_of(rt.alloc(), &pile(rt.alloc())?)?;
-    check_eq(figures.as_slice(), &[0, 40, 40, 50, 40, 0, 0, 30, 40, 0, 0, 30, 50, 30, 30, 0])
+    check_eq(
+        figures.as_slice(),
+        &[0, 40, 40, 50, 40, 0, 0, 30, 40, 0, 0, 30, 50, 30, 30, 0],
+    )
 }

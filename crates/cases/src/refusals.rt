@@ -1,6 +1,7 @@
 // Each refusal of a source, at its edge.
 use crate::tables::fault;
 use crate::tables::layer_fault;
+use crate::tables::pipe;
 use network::link::Link;
 use network::link::LinkSource;
 use network::map::PipeMap;
@@ -22,8 +23,10 @@ use terms::measures::Km;
 // What a source is made of, and what it is refused with.
 #[derive(Drop)]
 struct TrunkCase<'a>(&'a [u32], Option<SourceFault>);
+
 #[derive(Drop)]
 struct TableCase<'a>(u32, &'a [u16], Option<SourceFault>);
+
 #[derive(Drop)]
 struct MapCase<'a>(u32, &'a [Pipe], Option<SourceFault>);
 
@@ -56,7 +59,10 @@ fn a_table_has_a_row_for_each_of_1_to_64_stations(rt: LibcRuntime) -> Result<(),
         TableCase(2, &many[0..5], Some(SourceFault::WrongCount)),
     ];
     for case in &cases {
-        check_eq(fault(DistanceTable::new(rt.alloc(), case.0, case.1)), case.2)?;
+        check_eq(
+            fault(DistanceTable::new(rt.alloc(), case.0, case.1)),
+            case.2,
+        )?;
     }
     Ok(())
 }
@@ -72,18 +78,29 @@ fn a_figure_is_a_distance_or_none_and_then_keeps_the_laws(rt: LibcRuntime) -> Re
         TableCase(2, &[0, 3, 4, 0], Some(SourceFault::BadFigure(1))),
         TableCase(2, &[0, 3, 65_535, 0], Some(SourceFault::BadFigure(1))),
         TableCase(3, &[0, 1, 2, 1, 0, 1, 2, 1, 0], None),
-        TableCase(3, &[0, 1, 3, 1, 0, 1, 3, 1, 0], Some(SourceFault::BadFigure(2))),
-        TableCase(3, &[0, 1, 65_535, 1, 0, 1, 65_535, 1, 0], Some(SourceFault::BadFigure(2))),
+        TableCase(
+            3,
+            &[0, 1, 3, 1, 0, 1, 3, 1, 0],
+            Some(SourceFault::BadFigure(2)),
+        ),
+        TableCase(
+            3,
+            &[0, 1, 65_535, 1, 0, 1, 65_535, 1, 0],
+            Some(SourceFault::BadFigure(2)),
+        ),
     ];
     for case in &cases {
-        check_eq(fault(DistanceTable::new(rt.alloc(), case.0, case.1)), case.2)?;
+        check_eq(
+            fault(DistanceTable::new(rt.alloc(), case.0, case.1)),
+            case.2,
+        )?;
     }
     Ok(())
 }
 
 #[test]
 fn a_map_has_1_to_64_stations_and_at_most_200_pipes(rt: LibcRuntime) -> Result<(), Fail> {
-    let many = [Pipe { from: 62, to: 63, length: Km(1) }; 201];
+    let many = [pipe(62, 63, 1); 201];
     let cases = [
         MapCase(0, &[], Some(SourceFault::WrongCount)),
         MapCase(1, &[], None),
@@ -99,16 +116,19 @@ fn a_map_has_1_to_64_stations_and_at_most_200_pipes(rt: LibcRuntime) -> Result<(
 
 #[test]
 fn a_pipe_joins_two_different_stations_over_1_to_9999_km(rt: LibcRuntime) -> Result<(), Fail> {
-    let good = Pipe { from: 2, to: 0, length: Km(9_999) };
+    let good = pipe(2, 0, 9_999);
     let bad = [
-        Pipe { from: 3, to: 0, length: Km(1) },
-        Pipe { from: 0, to: 3, length: Km(1) },
-        Pipe { from: 2, to: 2, length: Km(1) },
-        Pipe { from: 0, to: 2, length: Km(0) },
-        Pipe { from: 0, to: 2, length: Km(10_000) },
+        pipe(3, 0, 1),
+        pipe(0, 3, 1),
+        pipe(2, 2, 1),
+        pipe(0, 2, 0),
+        pipe(0, 2, 10_000),
     ];
-    for pipe in &bad {
-        check_eq(fault(PipeMap::new(rt.alloc(), 3, &[good, *pipe])), Some(SourceFault::BadFigure(1)))?;
+    for p in &bad {
+        check_eq(
+            fault(PipeMap::new(rt.alloc(), 3, &[good, *p])),
+            Some(SourceFault::BadFigure(1)),
+        )?;
     }
     check_eq(fault(PipeMap::new(rt.alloc(), 3, &[good])), None)
 }
@@ -129,21 +149,35 @@ fn a_link_is_refused_for_its_ends_and_then_for_its_length(rt: LibcRuntime) -> Re
 }
 
 #[test]
-fn a_refused_link_hands_its_source_back(rt: LibcRuntime) -> Result<(), Fail> {
+fn a_refused_layer_hands_back_what_it_was_to_stand_on(rt: LibcRuntime) -> Result<(), Fail> {
     let trunk = Trunk::new(rt.alloc(), &[0, 40, 100])?;
-    match Link::new(trunk, 0, 3, Km(1)) {
-        Ok(_) => Err(Fail::new("station 3 was taken")),
-        Err(back) => check_eq(back.below.stations(), 3),
-    }
+    let back = match Link::new(trunk, 0, 3, Km(1)) {
+        Ok(_) => return Err(Fail::new("station 3 was taken")),
+        Err(back) => back.below,
+    };
+    let (first, second) = match Pairing::new(back, Trunk::new(rt.alloc(), &[0, 25])?, 2, 2) {
+        Ok(_) => return Err(Fail::new("station 2 of the second was taken")),
+        Err(back) => back.below,
+    };
+    check_eq(first.stations(), 3)?;
+    check_eq(second.stations(), 2)
 }
 
 type Two = Pairing<Trunk, Trunk>;
+
 type Four = Pairing<Two, Two>;
+
 type Eight = Pairing<Four, Four>;
+
 type Fourteen = Pairing<Eight, Pairing<Four, Two>>;
 
 fn two(heap: Global) -> Result<Two, SourceFault> {
-    let pairing = Pairing::new(Trunk::new(heap, &[0; 64])?, Trunk::new(heap, &[0; 64])?, 0, 0)?;
+    let pairing = Pairing::new(
+        Trunk::new(heap, &[0; 64])?,
+        Trunk::new(heap, &[0; 64])?,
+        0,
+        0,
+    )?;
     Ok(pairing)
 }
 
@@ -161,7 +195,9 @@ fn fourteen(heap: Global) -> Result<Fourteen, SourceFault> {
 }
 
 #[test]
-fn a_pairing_is_refused_over_1000_stations_and_then_for_its_exchange_stations(rt: LibcRuntime) -> Result<(), Fail> {
+fn a_pairing_is_refused_over_1000_stations_and_then_for_its_exchange_stations(
+    rt: LibcRuntime,
+) -> Result<(), Fail> {
     let more = [0; 41];
     let cases = [
         (40, 959, 39, None),
@@ -170,7 +206,12 @@ fn a_pairing_is_refused_over_1000_stations_and_then_for_its_exchange_stations(rt
         (40, 0, 40, Some(SourceFault::NoStation)),
     ];
     for (count, x, y, refusal) in cases {
-        let first = Pairing::new(fourteen(rt.alloc())?, Trunk::new(rt.alloc(), &[0; 64])?, 0, 0);
+        let first = Pairing::new(
+            fourteen(rt.alloc())?,
+            Trunk::new(rt.alloc(), &[0; 64])?,
+            0,
+            0,
+        );
         let second = Trunk::new(rt.alloc(), more.get(0..count).unwrap_or(&more))?;
         match first {
             Ok(first) => check_eq(layer_fault(Pairing::new(first, second, x, y)), refusal)?,

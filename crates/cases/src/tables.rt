@@ -1,4 +1,5 @@
 // What the tests of sources share.
+use network::pipe::Pipe;
 use network::refused::RefusedLayer;
 use network::source::Source;
 use std::test::*;
@@ -8,10 +9,10 @@ use terms::measures::KmDebug;
 use terms::measures::KmPartialEq;
 
 // A distance in km; none where there is none.
-pub struct Row(pub u32, pub u32, pub Option<u32>);
+pub(crate) struct Row(pub u32, pub u32, pub Option<u32>);
 
 // The source gives the distances of the table.
-pub fn gives<S: Source>(source: &S, rows: &[Row]) -> Result<(), Fail> {
+pub(crate) fn gives<S: Source>(source: &S, rows: &[Row]) -> Result<(), Fail> {
     for row in rows {
         let expected = match row.2 {
             Some(km) => Some(Km(km)),
@@ -23,15 +24,25 @@ pub fn gives<S: Source>(source: &S, rows: &[Row]) -> Result<(), Fail> {
     Ok(())
 }
 
+pub(crate) fn pipe(from: u32, to: u32, length: u32) -> Pipe {
+    Pipe {
+        from,
+        to,
+        length: Km(length),
+    }
+}
+
 // The fault, where there is one.
-pub fn fault<T: Drop>(made: Result<T, SourceFault>) -> Option<SourceFault> {
+pub(crate) fn fault<T: Drop>(made: Result<T, SourceFault>) -> Option<SourceFault> {
     match made {
         Ok(_) => None,
         Err(fault) => Some(fault),
     }
 }
 
-pub fn layer_fault<T: Drop, S: Drop>(made: Result<T, RefusedLayer<S>>) -> Option<SourceFault> {
+pub(crate) fn layer_fault<T: Drop, S: Drop>(
+    made: Result<T, RefusedLayer<S>>,
+) -> Option<SourceFault> {
     match made {
         Ok(_) => None,
         Err(refused) => Some(refused.fault),

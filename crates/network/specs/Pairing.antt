@@ -19,8 +19,8 @@ across first second x y a b = capped (plus (first .distance a x) (second .distan
 abbrev pub paired : Net → Net → ℕ → ℕ → ℕ → ℕ → Option ℕ
 paired first second x y a b =
     cond (ltb a (first .stations))
-      (cond (ltb b (first .stations)) (first .distance a b) (across first second x y a (b - first .stations)))
-      (cond (ltb b (first .stations)) (across first second x y b (a - first .stations)) (second .distance (a - first .stations) (b - first .stations)))
+    (cond (ltb b (first .stations)) (first .distance a b) (across first second x y a (b - first .stations)))
+    (cond (ltb b (first .stations)) (across first second x y b (a - first .stations)) (second .distance (a - first .stations) (b - first .stations)))
 
 abbrev pub pairing-net : Net → Net → ℕ → ℕ → Net
 pairing-net first second x y = record { stations = first .stations + second .stations; distance = paired first second x y }

@@ -19,11 +19,11 @@ no-pipe = record { from = 0; to = 0; length = record { 0 = 0 } }
 abbrev pub pipe-at : List Pipe → ℕ → Pipe
 pipe-at pipes i = getD pipes i no-pipe
 
--- A pipe joins its ends in both senses.
+-- p joins a and b, in either sense, and is l km long
 abbrev pub Lies : Pipe → ℕ → ℕ → ℕ → Type 0
 Lies p a b l = (((p .from ≡ a) × (p .to ≡ b)) ⊎ ((p .from ≡ b) × (p .to ≡ a))) × (p .length .0 ≡ l)
 
--- some pipe of the list joins a and b, and is l km long
+-- some pipe of the list does
 abbrev pub Joins : List Pipe → ℕ → ℕ → ℕ → Type 0
 Joins pipes a b l = (i : ℕ) × ((i < length pipes) × Lies (pipe-at pipes i) a b l)
 

@@ -20,4 +20,4 @@ through n figures k a b = shortcut (at n figures a k) (at n figures k b) (at n f
 abbrev pub laid : ℕ → Pipe → List ℕ → List ℕ
 laid n p figures =
     set (set figures (p .from * n + p .to) (min (p .length .0) (at n figures (p .from) (p .to))))
-      (p .to * n + p .from) (min (p .length .0) (at n figures (p .to) (p .from)))
+    (p .to * n + p .from) (min (p .length .0) (at n figures (p .to) (p .from)))

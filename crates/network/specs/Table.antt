@@ -33,4 +33,4 @@ abbrev pub table-rules : ℕ → List ℕ → List Rule
 table-rules n figures =
     refused WrongCount ((n < 1) ⊎ ((bottom-stations < n) ⊎ (length figures ≡ n * n → ⊥)))
     ∷ (each (λ i. NoFigure (getD figures i 0)) 0 (length figures)
-      ++ each (λ i. BreaksLaw n figures (i / n) (i % n)) 0 (length figures))
+    ++ each (λ i. BreaksLaw n figures (i / n) (i % n)) 0 (length figures))

@@ -20,12 +20,23 @@ impl<S: Source> Link<S> {
     {
         let n = below.stations();
         if p >= n || q >= n {
-            return Err(RefusedLayer { fault: SourceFault::NoStation, below });
+            return Err(RefusedLayer {
+                fault: SourceFault::NoStation,
+                below,
+            });
         }
         if length.0 > LONGEST {
-            return Err(RefusedLayer { fault: SourceFault::BadFigure(0), below });
+            return Err(RefusedLayer {
+                fault: SourceFault::BadFigure(0),
+                below,
+            });
         }
-        Ok(Link { below, p, q, length })
+        Ok(Link {
+            below,
+            p,
+            q,
+            length,
+        })
     }
 }
 
@@ -39,8 +50,14 @@ pub impl<S: Source> Source for Link<S> as LinkSource {
     fn distance(&self, a: u32, b: u32) -> Option<Km> {
         let direct = self.below.distance(a, b);
         let length = Some(self.length);
-        let forth = sum(sum(self.below.distance(a, self.p), length), self.below.distance(self.q, b));
-        let back = sum(sum(self.below.distance(a, self.q), length), self.below.distance(self.p, b));
+        let forth = sum(
+            sum(self.below.distance(a, self.p), length),
+            self.below.distance(self.q, b),
+        );
+        let back = sum(
+            sum(self.below.distance(a, self.q), length),
+            self.below.distance(self.p, b),
+        );
         shorter(direct, shorter(forth, back))
     }
 }

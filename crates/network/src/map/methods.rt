@@ -33,8 +33,8 @@ fn is_good(n: u32, p: Pipe) -> bool
 fn first_bad(n: u32, pipes: &[Pipe]) -> Option<usize>
     ensures { λ r. ⌜ First (λ i. GoodPipe n (pipe-at (now (pipes .entry)) i) → ⊥) (length (now (pipes .entry))) r ⌝ }
 {
-    for i in 0..pipes.len() {
-        if !is_good(n, pipes[i]) {
+    for (i, p) in pipes.iter().enumerate() {
+        if !is_good(n, *p) {
             return Some(i);
         }
     }

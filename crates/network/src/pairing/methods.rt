@@ -20,19 +20,33 @@ impl<F: Source, G: Source> Pairing<F, G> {
         let n = first.stations();
         let m = second.stations();
         if n + m > MOST_STATIONS {
-            return Err(RefusedLayer { fault: SourceFault::WrongCount, below: (first, second) });
+            return Err(RefusedLayer {
+                fault: SourceFault::WrongCount,
+                below: (first, second),
+            });
         }
         if x >= n || y >= m {
-            return Err(RefusedLayer { fault: SourceFault::NoStation, below: (first, second) });
+            return Err(RefusedLayer {
+                fault: SourceFault::NoStation,
+                below: (first, second),
+            });
         }
-        Ok(Pairing { first, second, x, y })
+        Ok(Pairing {
+            first,
+            second,
+            x,
+            y,
+        })
     }
 
     // From a of the first to b of the second.
     fn across(&self, a: u32, b: u32) -> Option<Km>
         ensures { λ r. ⌜ kms r ≡ across (F·Source .net (now (self .entry) .first)) (G·Source .net (now (self .entry) .second)) (now (self .entry) .x) (now (self .entry) .y) a b ⌝ }
     {
-        sum(self.first.distance(a, self.x), self.second.distance(self.y, b))
+        sum(
+            self.first.distance(a, self.x),
+            self.second.distance(self.y, b),
+        )
     }
 }
 
@@ -49,7 +63,11 @@ pub impl<F: Source, G: Source> Source for Pairing<F, G> as PairingSource {
         }
         let n = self.first.stations();
         if a < n {
-            if b < n { self.first.distance(a, b) } else { self.across(a, b - n) }
+            if b < n {
+                self.first.distance(a, b)
+            } else {
+                self.across(a, b - n)
+            }
         } else if b < n {
             self.across(b, a - n)
         } else {

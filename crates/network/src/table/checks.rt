@@ -14,8 +14,8 @@ use crate::limits::NONE_FIGURE;
 pub(super) fn first_no_figure(figures: &[u16]) -> Option<usize>
     ensures { λ r. ⌜ First (λ i. NoFigure (getD (now (figures .entry)) i 0)) (length (now (figures .entry))) r ⌝ }
 {
-    for i in 0..figures.len() {
-        if figures[i] > LONGEST_FIGURE && figures[i] != NONE_FIGURE {
+    for (i, figure) in figures.iter().enumerate() {
+        if *figure > LONGEST_FIGURE && *figure != NONE_FIGURE {
             return Some(i);
         }
     }

@@ -50,6 +50,10 @@ pub impl Source for DistanceTable as DistanceTableSource {
             return None;
         }
         let k = figure_at(&self.figures, self.count, a, b);
-        if k <= LONGEST_FIGURE { Some(Km(u32::from(k))) } else { None }
+        if k <= LONGEST_FIGURE {
+            Some(Km(u32::from(k)))
+        } else {
+            None
+        }
     }
 }

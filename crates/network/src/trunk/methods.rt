@@ -17,8 +17,8 @@ use terms::measures::Km;
 fn first_high(positions: &[u32]) -> Option<usize>
     ensures { λ r. ⌜ First (λ i. longest < getD (now (positions .entry)) i 0) (length (now (positions .entry))) r ⌝ }
 {
-    for i in 0..positions.len() {
-        if positions[i] > LONGEST {
+    for (i, p) in positions.iter().enumerate() {
+        if *p > LONGEST {
             return Some(i);
         }
     }
