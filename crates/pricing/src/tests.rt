@@ -200,7 +200,8 @@ fn limits_are_kept_at_their_edges() -> Result<(), Fail> {
     check(Amount::new(Dinars(10_000_000)).is_some())?;
     check(Amount::new(Dinars(10_000_001)).is_none())?;
     check(Relief::new(10_000).is_some())?;
-    check(Relief::new(10_001).is_none())
+    check(Relief::new(10_001).is_none())?;
+    check_eq(Relief::NONE.get(), 0)
 }
 
 #[test]
