@@ -51,7 +51,7 @@ impl Amount {
     }
 
     // Its halves, entries first.
-    pub fn halves(self) -> (Amount, Amount)
+    pub(crate) fn halves(self) -> (Amount, Amount)
         ensures entries { λ r. ⌜ r .0 .dinars .0 ≡ entries-half (self .dinars .0) ⌝ }
         ensures exits { λ r. ⌜ r .1 .dinars .0 ≡ exits-half (self .dinars .0) ⌝ }
     {

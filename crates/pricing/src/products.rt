@@ -75,7 +75,7 @@ impl Term {
     }
 
     // Whether the term takes that multiplier, in hundredths.
-    pub fn takes(self, multiplier: u32) -> bool
+    pub(crate) fn takes(self, multiplier: u32) -> bool
         ensures { λ r. ⌜ When r (InRange self multiplier) (OutOfRange self multiplier) ⌝ }
     {
         let most = match self {
@@ -117,7 +117,7 @@ fn quarter_days(quarter: u32) -> u64
 
 impl Product {
     // Whether there is such a product.
-    pub fn exists(self) -> bool
+    pub(crate) fn exists(self) -> bool
         ensures { λ r. ⌜ When r (Exists self) (NoSuch self) ⌝ }
     {
         match self.term {

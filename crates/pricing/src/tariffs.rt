@@ -43,7 +43,7 @@ fn element(share: Dinars<u64>, lots: Lots) -> ElementFigures
 }
 
 // The shares and tariffs of a side: storage first, then the others with what storage released.
-pub fn side_figures(side: Sharing, lots: SideLots) -> SideFigures
+pub(crate) fn side_figures(side: Sharing, lots: SideLots) -> SideFigures
     ensures value { λ r. ⌜ r ≡ side-of (side .base) lots ⌝ }
     ensures promised { λ r. ⌜ SidePromised (side .base) lots r ⌝ }
     ensures bound { λ r. ⌜ highest r ≤ most-tariff ⌝ }

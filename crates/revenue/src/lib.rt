@@ -1,3 +1,8 @@
 //! Closing a period: the allowed revenue, and what is carried on to the next.
+pub mod carried;
 pub mod figures;
+pub mod period;
 pub mod units;
+
+#[cfg(test)]
+mod tests;

@@ -175,10 +175,9 @@ impl BookFault {
     pub fn refusal(self) -> Refusal
         ensures { λ r. ⌜ r ≡ book-refusal self ⌝ }
     {
-        Refusal {
-            number: self.number(),
-            part: self.part(),
-            place: self.place(),
-        }
+        let number = self.number();
+        let part = self.part();
+        let place = self.place();
+        Refusal { number, part, place }
     }
 }

@@ -1,6 +1,7 @@
 // Division to the nearest whole. The rule for halves stands in `half_up` and nowhere else.
 ghost use mathlib.Core.Path.{_≡_};
 ghost use Prim.Native.Nat.{_≤_, _<_};
+ghost use lib.IntN.{natAbs};
 ghost use Rattle.terms.specs.Rounding.{carry, nearest, Within, HalfUp, nearest-away};
 use crate::divisor::Divisor;
 
@@ -26,7 +27,8 @@ pub fn to_nearest(n: u64, by: Divisor) -> u64
 
 // z / by to the nearest whole, a half going away from 0.
 pub fn to_nearest_signed(z: i64, by: Divisor) -> i64
-    ensures { λ q. ⌜ q ≡ nearest-away z (by .value) ⌝ }
+    ensures value { λ q. ⌜ q ≡ nearest-away z (by .value) ⌝ }
+    ensures bound { λ q. ⌜ natAbs q ≤ natAbs z ⌝ }
 {
     let size = to_nearest(z.unsigned_abs(), by);
     if z < 0 {

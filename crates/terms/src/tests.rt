@@ -8,11 +8,24 @@ use crate::refusals::Part;
 use crate::refusals::Refusal;
 use crate::rounding::to_nearest;
 use crate::rounding::to_nearest_signed;
+use crate::points::KindDebug;
+use crate::points::KindPartialEq;
+use crate::points::SideDebug;
+use crate::points::SidePartialEq;
+use crate::refusals::RefusalDebug;
+use crate::refusals::RefusalPartialEq;
 use std::test::*;
+
+fn divisor(value: u64) -> Result<Divisor, Fail> {
+    match Divisor::new(value) {
+        Some(by) => Ok(by),
+        None => Err(Fail::new("not a divisor")),
+    }
+}
 
 #[test]
 fn a_half_goes_up_and_less_goes_down() -> Result<(), Fail> {
-    let by = Divisor::new(10).ok_or("ten")?;
+    let by = divisor(10)?;
     check_eq(to_nearest(14, by), 1)?;
     check_eq(to_nearest(15, by), 2)?;
     check_eq(to_nearest(16, by), 2)?;
@@ -21,18 +34,21 @@ fn a_half_goes_up_and_less_goes_down() -> Result<(), Fail> {
 
 #[test]
 fn a_signed_half_goes_away_from_zero() -> Result<(), Fail> {
-    let by = Divisor::new(10).ok_or("ten")?;
+    let by = divisor(10)?;
     check_eq(to_nearest_signed(15, by), 2)?;
     check_eq(to_nearest_signed(-15, by), -2)?;
     check_eq(to_nearest_signed(-14, by), -1)?;
-    check_eq(to_nearest_signed(i64::MIN, Divisor::new(1).ok_or("one")?), i64::MIN)
+    let one = divisor(1)?;
+    check_eq(to_nearest_signed(i64::MIN, one), i64::MIN)
 }
 
 #[test]
 fn the_largest_numbers_round_without_wrapping() -> Result<(), Fail> {
-    check_eq(to_nearest(u64::MAX, Divisor::new(1).ok_or("one")?), u64::MAX)?;
-    check_eq(to_nearest(u64::MAX, Divisor::new(u64::MAX).ok_or("most")?), 1)?;
-    check_eq(to_nearest(u64::MAX / 2, Divisor::new(u64::MAX).ok_or("most")?), 0)
+    let one = divisor(1)?;
+    let most = divisor(u64::MAX)?;
+    check_eq(to_nearest(u64::MAX, one), u64::MAX)?;
+    check_eq(to_nearest(u64::MAX, most), 1)?;
+    check_eq(to_nearest(u64::MAX / 2, most), 0)
 }
 
 #[test]

@@ -1,0 +1,10 @@
+pub mod Limits
+pub mod Bytes
+pub mod Faults
+pub mod Lines
+pub mod Words
+pub mod Numbers
+pub mod Seen
+pub mod Reading
+pub mod Meant
+pub mod Closings

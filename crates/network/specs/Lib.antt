@@ -1,0 +1,13 @@
+pub mod Limits
+pub mod Net
+pub mod Distances
+pub mod Rules
+pub mod Trunk
+pub mod Grid
+pub mod Table
+pub mod Routes
+pub mod Pipes
+pub mod Search
+pub mod Link
+pub mod Pairing
+pub mod Meanings

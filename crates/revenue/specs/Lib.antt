@@ -1,0 +1,4 @@
+pub mod Limits
+pub mod Closings
+pub mod Checks
+pub mod Law

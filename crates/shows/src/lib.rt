@@ -1,0 +1,2 @@
+//! The distances of any source, as lines of text.
+pub mod distances;
