@@ -25,6 +25,7 @@ last-quarter = 3
 abbrev pub last-month : ℕ
 last-month = 11
 
+-- A product within a day runs at most a whole one.
 abbrev pub hours-per-day : ℕ
 hours-per-day = 24
 

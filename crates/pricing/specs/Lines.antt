@@ -14,6 +14,7 @@ use Rattle.terms.specs.Points.{side-letter, kind-letter}
 use Rattle.pricing.specs.declared.figures.ElementFigures.{ElementFigures}
 use Rattle.pricing.specs.declared.figures.TariffFigures.{TariffFigures}
 
+-- a letter is one byte
 abbrev pub letter : ℕ → List ℕ
 letter c = c ∷ []
 

@@ -10,6 +10,7 @@ use Rattle.pricing.specs.Exact.{exact-storage, exact-other}
 abbrev pub factor : Basis → ℕ → Fraction
 factor b w = fraction w (weight b)
 
+-- The storage discount is its relief, out of the whole.
 abbrev pub discount : Basis → Fraction
 discount b = fraction (b .relief) whole-relief
 

@@ -37,6 +37,7 @@ first-number Month = 0
 first-number Day = 0
 first-number Hours = 1
 
+-- the last of them
 abbrev pub last-number : Term → ℕ
 last-number Year = 0
 last-number Quarter = last-quarter
@@ -44,9 +45,11 @@ last-number Month = last-month
 last-number Day = 0
 last-number Hours = hours-per-day
 
+-- There is such a product.
 abbrev pub Exists : Product → Type 0
 Exists p = (first-number (p .term) ≤ p .number) × (p .number ≤ last-number (p .term))
 
+-- There is none.
 abbrev pub NoSuch : Product → Type 0
 NoSuch p = (p .number < first-number (p .term)) ⊎ (last-number (p .term) < p .number)
 
@@ -58,9 +61,11 @@ most-multiplier Month = most-by-month
 most-multiplier Day = most-by-day
 most-multiplier Hours = most-by-day
 
+-- The term takes that multiplier.
 abbrev pub InRange : Term → ℕ → Type 0
 InRange t m = (multiplier-one ≤ m) × (m ≤ most-multiplier t)
 
+-- It does not.
 abbrev pub OutOfRange : Term → ℕ → Type 0
 OutOfRange t m = (m < multiplier-one) ⊎ (most-multiplier t < m)
 
@@ -68,6 +73,7 @@ OutOfRange t m = (m < multiplier-one) ⊎ (most-multiplier t < m)
 abbrev pub months : List ℕ
 months = 31 ∷ 30 ∷ 31 ∷ 31 ∷ 28 ∷ 31 ∷ 30 ∷ 31 ∷ 30 ∷ 31 ∷ 31 ∷ 30 ∷ []
 
+-- the days of month k
 abbrev pub month-days : ℕ → ℕ
 month-days k = getD months k 0
 

@@ -77,6 +77,14 @@ fn product(term: Term, number: u32) -> Product {
     Product { term, number }
 }
 
+fn numbered_to(term: Term, last: u32) -> bool {
+    product(term, last).exists() && !product(term, last.saturating_add(1)).exists()
+}
+
+fn takes_up_to(term: Term, most: u32) -> bool {
+    term.takes(most) && !term.takes(most.saturating_add(1))
+}
+
 // The grid of the worked example, with an allowed revenue of 9,001.
 fn worked() -> Result<Draft, Fail> {
     let entries = plan((11_100_000, 0, 2_100_000), (300, 0, 100), 7_500)?;
@@ -200,7 +208,8 @@ fn limits_are_kept_at_their_edges() -> Result<(), Fail> {
     check(Amount::new(Dinars(10_000_000)).is_some())?;
     check(Amount::new(Dinars(10_000_001)).is_none())?;
     check(Relief::new(10_000).is_some())?;
-    check(Relief::new(10_001).is_none())
+    check(Relief::new(10_001).is_none())?;
+    check_eq(Relief::NONE.get(), 0)
 }
 
 #[test]
@@ -249,17 +258,18 @@ fn a_price_is_refused_by_its_first_broken_rule() -> Result<(), Fail> {
 
 #[test]
 fn products_and_multipliers_end_at_their_edges() -> Result<(), Fail> {
-    check(product(Term::Year, 0).exists() && !product(Term::Year, 1).exists())?;
-    check(product(Term::Quarter, 3).exists() && !product(Term::Quarter, 4).exists())?;
-    check(product(Term::Month, 11).exists() && !product(Term::Month, 12).exists())?;
-    check(product(Term::Day, 0).exists() && !product(Term::Day, 3).exists())?;
-    check(product(Term::Hours, 1).exists() && !product(Term::Hours, 0).exists())?;
-    check(product(Term::Hours, 24).exists() && !product(Term::Hours, 25).exists())?;
-    check(Term::Year.takes(100) && !Term::Year.takes(99) && !Term::Year.takes(101))?;
-    check(Term::Quarter.takes(150) && !Term::Quarter.takes(151))?;
-    check(Term::Month.takes(150) && !Term::Month.takes(151))?;
-    check(Term::Day.takes(300) && !Term::Day.takes(301))?;
-    check(Term::Hours.takes(300) && !Term::Hours.takes(301) && !Term::Hours.takes(99))
+    check(numbered_to(Term::Year, 0))?;
+    check(numbered_to(Term::Quarter, 3))?;
+    check(numbered_to(Term::Month, 11))?;
+    check(numbered_to(Term::Day, 0))?;
+    check(numbered_to(Term::Hours, 24))?;
+    check(!product(Term::Hours, 0).exists())?;
+    check(takes_up_to(Term::Year, 100))?;
+    check(takes_up_to(Term::Quarter, 150))?;
+    check(takes_up_to(Term::Month, 150))?;
+    check(takes_up_to(Term::Day, 300))?;
+    check(takes_up_to(Term::Hours, 300))?;
+    check(!Term::Hours.takes(99))
 }
 
 #[test]
