@@ -1,7 +1,7 @@
 -- What follows from the rules alone, over every run.
 use mathlib.Core.Path.{_≡_}
 use mathlib.Core.Bool.{Bool, true, false, cond}
-use mathlib.Core.List.{List, [], _∷_}
+use mathlib.Core.List.{[], _∷_}
 use Rattle.std.specs.declared.result.Result.the-variants.{Ok, Err}
 use Rattle.network.specs.Net.{Net, Lawful}
 use Rattle.rules.specs.declared.calls.Call.{Call}
@@ -17,7 +17,9 @@ Total = (net : Net) (p : Plain) (c : Call) → (o : Outcome) × (p′ : Plain) �
 
 -- A call on a plain book has one outcome, and leaves one plain book.
 abbrev pub Settled : Type 0
-Settled = (net : Net) (p : Plain) (c : Call) (a b : Outcome) (p′ p″ : Plain) → Handles net p c a p′ → Handles net p c b p″ → (a ≡ b) × (p′ ≡ p″)
+Settled =
+    (net : Net) (p : Plain) (c : Call) (a b : Outcome) (p′ p″ : Plain) → Handles net p c a p′ → Handles net p c b p″
+    → (a ≡ b) × (p′ ≡ p″)
 
 -- Calls with their outcomes lead to one plain book at most.
 abbrev pub Single : Type 0

@@ -3,7 +3,6 @@ use Prim.Native.Nat.{ℕ, _+_, _*_, _≤_, _<_}
 use mathlib.Core.Path.{_≡_}
 use mathlib.Core.List.{List, List·Memᴰ}
 use lib.ListN.{length}
-use lib.IntN.{ℤ, _+ℤ_}
 use Rattle.std.specs.declared.option.Option.the-variants.{Some}
 use Rattle.std.specs.declared.result.Result.the-variants.{Ok, Err}
 use Rattle.terms.specs.declared.points.Side.{Side}
@@ -22,7 +21,7 @@ use Rattle.rules.specs.declared.calls.Call.the-variants.{Draw}
 use Rattle.rules.specs.declared.calls.Answer.the-variants.{Drawn}
 use Rattle.rules.specs.Limits.{most-points, most-lots, farthest, whole-relief, most-weight}
 use Rattle.rules.specs.Points.{Point, Plain, opposite, on-side, lots-of}
-use Rattle.rules.specs.Weights.{reach, side-lots, basis-of, drawing}
+use Rattle.rules.specs.Weights.{sum-of, km, reach, point-weight, side-lots, basis-of, drawing}
 use Rattle.rules.specs.Plain.{Outcome, Handles}
 use Rattle.rules.specs.Runs.{History, Led}
 
@@ -41,8 +40,13 @@ average-distance net at others = fraction (reach net at others) (lots-of others)
 abbrev pub Averaged : Net → List Point → Type 0
 Averaged net points =
     (q : Point) → 0 < lots-of (on-side (opposite (q .side)) points)
-    → Same (whole (q .lots * reach net (q .station) (on-side (opposite (q .side)) points)))
+    → Same (whole (point-weight net points q))
         (times (whole (q .lots * lots-of (on-side (opposite (q .side)) points))) (average-distance net (q .station) (on-side (opposite (q .side)) points)))
+
+-- the sum, over all pairs of an entry and an exit, of lots times lots times distance
+abbrev pub pairs-weight : Net → List Point → ℕ
+pairs-weight net points =
+    sum-of (λ e. sum-of (λ x. e .lots * x .lots * km (net .distance (e .station) (x .station))) (on-side Exit points)) (on-side Entry points)
 
 -- The limits that no side passes.
 pub record Bounded (p : Plain) (s : Side) : Type 0 where
@@ -77,7 +81,8 @@ pub record Drafted (net : Net) (p : Plain) (f : TariffFigures) : Type 0 where
 -- What a draw comes back with: the six shares and tariffs that the rules define on the book's figures, with what is promised of
 -- them, or the refusal of the first side that has no exact shares.
 pub data Draws (net : Net) (p : Plain) : Outcome → Type 0 where
-  given : HasExactShares net p Entry → HasExactShares net p Exit → Drafted net p (figures-of (drawing net p)) → Draws net p (Ok (Drawn (figures-of (drawing net p))))
+  given : HasExactShares net p Entry → HasExactShares net p Exit → Drafted net p (figures-of (drawing net p))
+      → Draws net p (Ok (Drawn (figures-of (drawing net p))))
   no-entry-shares : (HasExactShares net p Entry → ⊥) → Draws net p (Err NoEntryShares)
   no-exit-shares : HasExactShares net p Entry → (HasExactShares net p Exit → ⊥) → Draws net p (Err NoExitShares)
 
@@ -94,8 +99,8 @@ pub record Promised (net : Net) (p : Plain) : Type 0 where
   pub bounded : (s : Side) → Bounded p s
   -- a side's weight is at most 1.6 × 10^12
   pub light : (s : Side) → weight (basis-of net p s) ≤ most-weight
-  -- both sides weigh the same: each is the sum, over all pairs of an entry and an exit, of lots times lots times distance
-  pub level : weight (basis-of net p Entry) ≡ weight (basis-of net p Exit)
+  -- both sides weigh the same, each the sum over all pairs of an entry and an exit
+  pub level : (s : Side) → weight (basis-of net p s) ≡ pairs-weight net (p .points)
   pub draft : Drawable net p
   -- the closings were accepted one after another, and leave what is carried
   pub closed : Accepted (p .closings) (p .carried)

@@ -1,0 +1,12 @@
+pub mod Faults
+pub mod Outcomes
+pub mod Histories
+pub mod Verdicts
+pub mod Sides
+pub mod Bounds
+pub mod Sums
+pub mod Elements
+pub mod Reached
+pub mod Levels
+pub mod Drafted
+pub mod Promised
