@@ -7,3 +7,6 @@ pub mod Openings
 pub mod Plans
 pub mod Settling
 pub mod Tallying
+pub mod Draws
+pub mod Faithfulness
+pub mod Runs

@@ -5,3 +5,4 @@ pub mod Passes
 pub mod Follows
 pub mod Figures
 pub mod Tallies
+pub mod Law

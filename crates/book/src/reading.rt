@@ -1,21 +1,20 @@
 // The figures of a table.
-ghost use Prim.Native.Nat.{ℕ};
 ghost use mathlib.Core.Path.{_≡_};
 ghost use lib.ListN.{length};
 ghost use Rattle.std.specs.Finite.{nth};
-ghost use Rattle.rules.specs.Points.{Plain};
-ghost use Rattle.book.specs.Shows.{held-in, row-of, Shows};
-ghost use Rattle.book.specs.Figures.{seen};
+ghost use Rattle.rules.specs.Points.{on-side, lots-of};
+ghost use Rattle.book.specs.Figures.{Sees, seen-point};
 use crate::table::PointTable;
+use terms::measures::Dinars;
 use terms::measures::Lots;
+use terms::measures::LotsDebug;
+use terms::measures::LotsPartialEq;
 use terms::points::Kind;
 use terms::points::KindDebug;
 use terms::points::KindPartialEq;
 use terms::points::Side;
 use terms::points::SideDebug;
 use terms::points::SidePartialEq;
-use terms::measures::LotsDebug;
-use terms::measures::LotsPartialEq;
 
 // A point of a book.
 #[derive(Clone, Copy, PartialEq, Eq, Debug)]
@@ -29,19 +28,45 @@ pub struct Point {
 impl PointTable {
     // How many points are open, on both sides.
     pub(crate) fn points(&self) -> u32
-        ensures { λ r. ⌜ ((p : Plain) → Shows (now (self .entry)) p → r ≡ length (p .points)) ⌝ }
+        ensures { λ r. ⌜ Sees (now (self .entry)) (λ p. r ≡ length (p .points)) ⌝ }
     {
         (self.entries.held().len() + self.exits.held().len()) as u32
     }
 
     // The point with this number.
     pub(crate) fn point(&self, number: u32) -> Option<Point>
-        ensures { λ r. ⌜ ((p : Plain) → Shows (now (self .entry)) p → seen r ≡ nth (p .points) number) ⌝ }
+        ensures { λ r. ⌜ Sees (now (self .entry)) (λ p. seen-point r ≡ nth (p .points) number) ⌝ }
     {
         let Some((side, at)) = self.locate(number) else {
             return None;
         };
         let found = self.row(side).held()[at];
         Some(Point { side, kind: found.kind, station: found.station, lots: found.lots })
+    }
+
+    // The planned lots of a side.
+    pub(crate) fn lots(&self, side: Side) -> Lots
+        ensures { λ r. ⌜ Sees (now (self .entry)) (λ p. r .0 ≡ lots-of (on-side side (p .points))) ⌝ }
+    {
+        self.row(side).lots()
+    }
+
+    // The storage relief of a side, in ten-thousandths.
+    pub(crate) fn relief(&self, side: Side) -> u32
+        ensures { λ r. ⌜ Sees (now (self .entry)) (λ p. r ≡ p .relief side) ⌝ }
+    {
+        self.row(side).relief().get()
+    }
+
+    pub(crate) fn allowed(&self) -> Dinars<u64>
+        ensures { λ r. ⌜ Sees (now (self .entry)) (λ p. r .0 ≡ p .allowed) ⌝ }
+    {
+        self.allowed.get()
+    }
+
+    pub(crate) fn carried(&self) -> Dinars<i64>
+        ensures { λ r. ⌜ Sees (now (self .entry)) (λ p. r .0 ≡ p .carried) ⌝ }
+    {
+        self.carried.amount()
     }
 }
