@@ -68,8 +68,8 @@ module _ (net : Net) (t : PointTable) (p : Plain) (sh : Shows t p) where
   weight-shown : (s : Side) (k : Kind) → sum-by (λ r. r .kind) (λ r. r .lots .0 * record-reach net (r .station) (held-in (row-of t (opposite s)))) k (held-in (row-of t s)) ≡ weight-of net (p .points) s k
   weight-shown s k =
       ap (λ rs. sum-by (λ r. r .kind) (λ r. r .lots .0 * record-reach net (r .station) rs) k (held-in (row-of t s))) (sh .sides (opposite s) .records)
-        ∙ ap (sum-by (λ r. r .kind) (λ r. r .lots .0 * record-reach net (r .station) (records-from 0 (opposite s) (p .points))) k) (sh .sides s .records)
-        ∙ sum-by-records _ _ (λ n q. ap (λ m. q .lots * m) (sum-of-records (λ r. r .lots .0 * km (net .distance (q .station) (r .station))) (λ x. x .lots * km (net .distance (q .station) (x .station))) (λ _ _. refl) 0 (opposite s) (p .points))) k 0 s (p .points)
+      ∙ ap (sum-by (λ r. r .kind) (λ r. r .lots .0 * record-reach net (r .station) (records-from 0 (opposite s) (p .points))) k) (sh .sides s .records)
+      ∙ sum-by-records _ _ (λ n q. ap (λ m. q .lots * m) (sum-of-records (λ r. r .lots .0 * km (net .distance (q .station) (r .station))) (λ x. x .lots * km (net .distance (q .station) (x .station))) (λ _ _. refl) 0 (opposite s) (p .points))) k 0 s (p .points)
 
   pub weights-shown : (s : Side) → record-weights net s (held-in (row-of t s)) (held-in (row-of t (opposite s))) ≡ weights-of net (p .points) s
   weights-shown s = same-weights _ _ _ _ _ _ (weight-shown s (main-kind s)) (weight-shown s (other-kind s)) (weight-shown s Storage)
@@ -94,12 +94,12 @@ module _ (net : Net) (t : PointTable) (p : Plain) (sh : Shows t p) where
   drawing-shown : (e x : SidePlan) → PlanOf e Entry → PlanOf x Exit → drawing-of (t .allowed .dinars .0) e x ≡ drawing net p
   drawing-shown e x h k =
       ap (λ a. drawing-from a (e .weights) (e .relief .parts) (e .lots) (x .weights) (x .relief .parts) (x .lots)) (sh .allowed)
-        ∙ ap (λ w. drawing-from (p .allowed) w (e .relief .parts) (e .lots) (x .weights) (x .relief .parts) (x .lots)) (h .weights ∙ weights-shown net t p sh Entry)
-        ∙ ap (λ r. drawing-from (p .allowed) (weights-of net (p .points) Entry) r (e .lots) (x .weights) (x .relief .parts) (x .lots)) (ap (λ (r : Relief). r .parts) (h .relief) ∙ sh .sides Entry .relief)
-        ∙ ap (λ l. drawing-from (p .allowed) (weights-of net (p .points) Entry) (p .relief Entry) l (x .weights) (x .relief .parts) (x .lots)) (h .lots ∙ lots-shown net t p sh Entry)
-        ∙ ap (λ w. drawing-from (p .allowed) (weights-of net (p .points) Entry) (p .relief Entry) (side-lots (p .points) Entry) w (x .relief .parts) (x .lots)) (k .weights ∙ weights-shown net t p sh Exit)
-        ∙ ap (λ r. drawing-from (p .allowed) (weights-of net (p .points) Entry) (p .relief Entry) (side-lots (p .points) Entry) (weights-of net (p .points) Exit) r (x .lots)) (ap (λ (r : Relief). r .parts) (k .relief) ∙ sh .sides Exit .relief)
-        ∙ ap (λ l. drawing-from (p .allowed) (weights-of net (p .points) Entry) (p .relief Entry) (side-lots (p .points) Entry) (weights-of net (p .points) Exit) (p .relief Exit) l) (k .lots ∙ lots-shown net t p sh Exit)
+      ∙ ap (λ w. drawing-from (p .allowed) w (e .relief .parts) (e .lots) (x .weights) (x .relief .parts) (x .lots)) (h .weights ∙ weights-shown net t p sh Entry)
+      ∙ ap (λ r. drawing-from (p .allowed) (weights-of net (p .points) Entry) r (e .lots) (x .weights) (x .relief .parts) (x .lots)) (ap (λ (r : Relief). r .parts) (h .relief) ∙ sh .sides Entry .relief)
+      ∙ ap (λ l. drawing-from (p .allowed) (weights-of net (p .points) Entry) (p .relief Entry) l (x .weights) (x .relief .parts) (x .lots)) (h .lots ∙ lots-shown net t p sh Entry)
+      ∙ ap (λ w. drawing-from (p .allowed) (weights-of net (p .points) Entry) (p .relief Entry) (side-lots (p .points) Entry) w (x .relief .parts) (x .lots)) (k .weights ∙ weights-shown net t p sh Exit)
+      ∙ ap (λ r. drawing-from (p .allowed) (weights-of net (p .points) Entry) (p .relief Entry) (side-lots (p .points) Entry) (weights-of net (p .points) Exit) r (x .lots)) (ap (λ (r : Relief). r .parts) (k .relief) ∙ sh .sides Exit .relief)
+      ∙ ap (λ l. drawing-from (p .allowed) (weights-of net (p .points) Entry) (p .relief Entry) (side-lots (p .points) Entry) (weights-of net (p .points) Exit) (p .relief Exit) l) (k .lots ∙ lots-shown net t p sh Exit)
 
   handled-as : (r : Result Draft BookFault) (d : Drawing) → d ≡ drawing net p → Answered (draw-rules d) (λ x. x .figures ≡ figures-of d) r → Handles net p Draw (drawn r) p
   handled-as (Ok x) d e v = subst (λ f. Handles net p Draw (Ok (Drawn f)) p) (sym (v .1 ∙ ap figures-of e)) (accepted (subst (λ z. NoneBroken (draw-rules z)) e (v .0)))

@@ -19,9 +19,9 @@ same-point x y n s e =
     let t = ap (λ (r : PointRecord). r .station) e in
     let l = ap (λ (r : PointRecord). r .lots .0) e in
     ap (λ z. record { side = z; kind = x .kind; station = x .station; lots = x .lots }) s
-      ∙ ap (λ z. record { side = y .side; kind = z; station = x .station; lots = x .lots }) k
-      ∙ ap (λ z. record { side = y .side; kind = y .kind; station = z; lots = x .lots }) t
-      ∙ ap (λ z. record { side = y .side; kind = y .kind; station = y .station; lots = z }) l
+    ∙ ap (λ z. record { side = y .side; kind = z; station = x .station; lots = x .lots }) k
+    ∙ ap (λ z. record { side = y .side; kind = y .kind; station = z; lots = x .lots }) t
+    ∙ ap (λ z. record { side = y .side; kind = y .kind; station = y .station; lots = z }) l
 
 -- no record of later points has the number b
 apart : (b : ℕ) (s : Side) (x : Point) (rs : List PointRecord) (ys : List Point) → record-of b x ∷ rs ≡ records-from (suc b) s ys → ⊥
@@ -46,6 +46,7 @@ same-points b (p ∷ xs) (q ∷ ys) e x = by (p .side) (q .side) refl refl e x (
   where
     each : p .side ≡ q .side → record-of b p ≡ record-of b q → xs ≡ ys → p ∷ xs ≡ q ∷ ys
     each s r t = ap (λ z. z ∷ xs) (same-point p q b s r) ∙ ap (λ l. q ∷ l) t
+
     by : (s t : Side) → p .side ≡ s → q .side ≡ t → cond (same-side Entry s) (record-of b p ∷ records-from (suc b) Entry xs) (records-from (suc b) Entry xs) ≡ cond (same-side Entry t) (record-of b q ∷ records-from (suc b) Entry ys) (records-from (suc b) Entry ys) → cond (same-side Exit s) (record-of b p ∷ records-from (suc b) Exit xs) (records-from (suc b) Exit xs) ≡ cond (same-side Exit t) (record-of b q ∷ records-from (suc b) Exit ys) (records-from (suc b) Exit ys) → (records-from (suc b) Entry xs ≡ records-from (suc b) Entry ys → records-from (suc b) Exit xs ≡ records-from (suc b) Exit ys → xs ≡ ys) → p ∷ xs ≡ q ∷ ys
     by Entry Entry f g e₁ x₁ rest = each (f ∙ sym g) (cc) (rest (cc) x₁)
     by Exit Exit f g e₁ x₁ rest = each (f ∙ sym g) (cc) (rest e₁ (cc))

@@ -51,9 +51,11 @@ point-of b s (x ∷ qs) r m = by (same-side s (x .side)) refl m (point-of (suc b
   where
     later : Found s r qs → Found s r (x ∷ qs)
     later f = (f .0, List·Memᴰ·tail (f .1), f .2, f .3)
+
     here : same-side s (x .side) ≡ true → (List·Memᴰ r (records-from (suc b) s qs) → Found s r qs) → (r ≡ record-of b x) ⊎ List·Memᴰ r (records-from (suc b) s qs) → Found s r (x ∷ qs)
     here e rest (inl i) = (x, List·Memᴰ·head refl, side-from-test s (x .side) e, ap (λ (z : PointRecord). z .station) i)
     here e rest (inr k) = later (rest k)
+
     by : (t : Bool) → same-side s (x .side) ≡ t → List·Memᴰ r (cond t (record-of b x ∷ records-from (suc b) s qs) (records-from (suc b) s qs)) → (List·Memᴰ r (records-from (suc b) s qs) → Found s r qs) → Found s r (x ∷ qs)
     by true e k rest = here e rest (List·Memᴰ·cases-cons k)
     by false e k rest = later (rest k)
@@ -123,11 +125,11 @@ other-new m Exit k at = refl
 pub shows-opened : (t t′ : PointTable) (p : Plain) (s : Side) (k : Kind) (at n : ℕ) → n ≡ length (p .points) → Added t s (record-with n k at 0) t′ → Shows t p → Shows t′ (after p (Open s k at))
 shows-opened t t′ p s k at n e a sh =
     shows-points t t′ s _ p (p .points ++ (new-point s k at ∷ [])) a
-      (ap (λ rs. rs ++ (record-with n k at 0 ∷ [])) (sh .sides s .records)
-        ∙ ap (λ m. records-from 0 s (p .points) ++ (record-with m k at 0 ∷ [])) (let z : n ≡ 0 + length (p .points) = omega arith in z)
-        ∙ ap (λ rs. records-from 0 s (p .points) ++ rs) (sym (own-new (0 + length (p .points)) s k at))
-        ∙ sym (records-push 0 s (p .points) (new-point s k at)))
-      (sym (append-nil (records-from 0 (opposite s) (p .points)))
-        ∙ ap (λ rs. records-from 0 (opposite s) (p .points) ++ rs) (sym (other-new (0 + length (p .points)) s k at))
-        ∙ sym (records-push 0 (opposite s) (p .points) (new-point s k at)))
-      sh
+    (ap (λ rs. rs ++ (record-with n k at 0 ∷ [])) (sh .sides s .records)
+    ∙ ap (λ m. records-from 0 s (p .points) ++ (record-with m k at 0 ∷ [])) (let z : n ≡ 0 + length (p .points) = omega arith in z)
+    ∙ ap (λ rs. records-from 0 s (p .points) ++ rs) (sym (own-new (0 + length (p .points)) s k at))
+    ∙ sym (records-push 0 s (p .points) (new-point s k at)))
+    (sym (append-nil (records-from 0 (opposite s) (p .points)))
+    ∙ ap (λ rs. records-from 0 (opposite s) (p .points) ++ rs) (sym (other-new (0 + length (p .points)) s k at))
+    ∙ sym (records-push 0 (opposite s) (p .points) (new-point s k at)))
+    sh

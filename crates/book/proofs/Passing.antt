@@ -60,9 +60,9 @@ module _ (net : Net) (at : ℕ) (rs : List PointRecord) (r : PointRecord) (p : P
   by-distance (Some d) e m = record {
     lacking = finds-not Lacks rs r (p .lacking) (λ n. let z : _≡_ {A = ℕ} 0 1 = cc in omega arith) (m .lacking);
     far = finds-test Strays rs r (p .far) (ltb farthest d)
-      (λ t. let h = ltb-true farthest d t in let k = ap km e in omega arith)
-      (λ t l. let h = ltb-false farthest d t in let k = ap km e in omega arith)
-      (m .far);
+        (λ t. let h = ltb-true farthest d t in let k = ap km e in omega arith)
+        (λ t l. let h = ltb-false farthest d t in let k = ap km e in omega arith)
+        (m .far);
   }
 
   pub met-more : (q : Pass) (o : Option ℕ) → q ≡ met p o → o ≡ net .distance at (r .station) → Met net at rs p → Met net at (rs ++ (r ∷ [])) q

@@ -97,18 +97,18 @@ module _ (n lots : ℕ) where
       by : (t : Bool) → same-side s (q .side) ≡ t → (j : ℕ) → j < length (cond t (record-of b q ∷ records-from (suc b) s qs) (records-from (suc b) s qs)) → getD (cond t (record-of b q ∷ records-from (suc b) s qs) (records-from (suc b) s qs)) j blank .number ≡ n → ((k : ℕ) → k < length (records-from (suc b) s qs) → getD (records-from (suc b) s qs) k blank .number ≡ n → set (records-from (suc b) s qs) k (relotted (getD (records-from (suc b) s qs) k blank) lots) ≡ records-from (suc b) s (planned (suc b) n lots qs)) → set (cond t (record-of b q ∷ records-from (suc b) s qs) (records-from (suc b) s qs)) j (relotted (getD (cond t (record-of b q ∷ records-from (suc b) s qs) (records-from (suc b) s qs)) j blank) lots) ≡ records-from b s (planned b n lots (q ∷ qs))
       by true c zero m f rest =
           sym (ap (records-from b s) (planned-here b q qs f)
-            ∙ ap (λ t. cond t (record-of b (with-lots lots q) ∷ records-from (suc b) s (planned (suc b) n lots qs)) (records-from (suc b) s (planned (suc b) n lots qs))) c
-            ∙ ap (λ l′. record-of b (with-lots lots q) ∷ records-from (suc b) s l′) (planned-past (suc b) qs (omega arith)))
+          ∙ ap (λ t. cond t (record-of b (with-lots lots q) ∷ records-from (suc b) s (planned (suc b) n lots qs)) (records-from (suc b) s (planned (suc b) n lots qs))) c
+          ∙ ap (λ l′. record-of b (with-lots lots q) ∷ records-from (suc b) s l′) (planned-past (suc b) qs (omega arith)))
       by true c (suc j) m f rest =
           let o = number-from (suc b) s qs j blank (omega arith) in
           sym (ap (records-from b s) (planned-later b q qs (omega (arith, o, f)))
-            ∙ ap (λ t. cond t (record-of b q ∷ records-from (suc b) s (planned (suc b) n lots qs)) (records-from (suc b) s (planned (suc b) n lots qs))) c
-            ∙ ap (λ l′. record-of b q ∷ l′) (sym (rest j (omega arith) f)))
+          ∙ ap (λ t. cond t (record-of b q ∷ records-from (suc b) s (planned (suc b) n lots qs)) (records-from (suc b) s (planned (suc b) n lots qs))) c
+          ∙ ap (λ l′. record-of b q ∷ l′) (sym (rest j (omega arith) f)))
       by false c j m f rest =
           let o = number-from (suc b) s qs j blank m in
           sym (ap (records-from b s) (planned-later b q qs (omega (arith, o, f)))
-            ∙ ap (λ t. cond t (record-of b q ∷ records-from (suc b) s (planned (suc b) n lots qs)) (records-from (suc b) s (planned (suc b) n lots qs))) c
-            ∙ sym (rest j m f))
+          ∙ ap (λ t. cond t (record-of b q ∷ records-from (suc b) s (planned (suc b) n lots qs)) (records-from (suc b) s (planned (suc b) n lots qs))) c
+          ∙ sym (rest j m f))
 
   -- the other side's records
   pub records-still : (b : ℕ) (u : Side) (qs : List Point) (k : ℕ) (q : Point) → n ≡ b + k → nth qs k ≡ Some q → same-side u (q .side) ≡ false → records-from b u (planned b n lots qs) ≡ records-from b u qs
@@ -117,9 +117,9 @@ module _ (n lots : ℕ) where
       let g : x ≡ q = cc in
       let d : same-side u (x .side) ≡ false = ap (λ (z : Point). same-side u (z .side)) g ∙ c in
       ap (records-from b u) (planned-here b x qs (omega arith))
-        ∙ ap (λ t. cond t (record-of b (with-lots lots x) ∷ records-from (suc b) u (planned (suc b) n lots qs)) (records-from (suc b) u (planned (suc b) n lots qs))) d
-        ∙ ap (records-from (suc b) u) (planned-past (suc b) qs (omega arith))
-        ∙ ap (λ t. cond t (record-of b x ∷ records-from (suc b) u qs) (records-from (suc b) u qs)) (sym d)
+      ∙ ap (λ t. cond t (record-of b (with-lots lots x) ∷ records-from (suc b) u (planned (suc b) n lots qs)) (records-from (suc b) u (planned (suc b) n lots qs))) d
+      ∙ ap (records-from (suc b) u) (planned-past (suc b) qs (omega arith))
+      ∙ ap (λ t. cond t (record-of b x ∷ records-from (suc b) u qs) (records-from (suc b) u qs)) (sym d)
   records-still b u (x ∷ qs) (suc k) q e f c =
       ap (records-from b u) (planned-later b x qs (omega arith))
-        ∙ ap (λ l. cond (same-side u (x .side)) (record-of b x ∷ l) l) (records-still (suc b) u qs k q (omega arith) f c)
+      ∙ ap (λ l. cond (same-side u (x .side)) (record-of b x ∷ l) l) (records-still (suc b) u qs k q (omega arith) f c)

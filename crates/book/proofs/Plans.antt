@@ -41,8 +41,8 @@ module _ (t : PointTable) (p : Plain) (sh : Shows t p) where
   pub past : (n : ℕ) → Located t n None → length (p .points) ≤ n
   past n l =
       let a = absent 0 n (p .points) (omega arith)
-            (subst (All (λ r. r .number ≡ n → ⊥)) (sh .sides Entry .records) (l Entry))
-            (subst (All (λ r. r .number ≡ n → ⊥)) (sh .sides Exit .records) (l Exit)) in
+      (subst (All (λ r. r .number ≡ n → ⊥)) (sh .sides Entry .records) (l Entry))
+      (subst (All (λ r. r .number ≡ n → ⊥)) (sh .sides Exit .records) (l Exit)) in
       omega arith
 
   module _ (s : Side) (i n : ℕ) (place : Place (held-in (row-of t s)) n (Some i)) where
@@ -68,7 +68,7 @@ module _ (t : PointTable) (p : Plain) (sh : Shows t p) where
       replanned-is : replanned t s i (lots .0) ≡ records-from 0 s (planned 0 n (lots .0) (p .points))
       replanned-is =
           ap (λ rs. set rs i (relotted (getD rs i blank) (lots .0))) (sh .sides s .records)
-            ∙ records-planned n (lots .0) 0 s (p .points) i within numbered
+          ∙ records-planned n (lots .0) 0 s (p .points) i within numbered
 
       replanned-lots : record-lots (replanned t s i (lots .0)) ≡ lots-of (on-side s (planned 0 n (lots .0) (p .points)))
       replanned-lots = ap record-lots replanned-is ∙ lots-records 0 s (planned 0 n (lots .0) (p .points))
@@ -86,12 +86,12 @@ module _ (t : PointTable) (p : Plain) (sh : Shows t p) where
       pub shows-planned : (t′ : PointTable) → Rewritten t s (replanned t s i (lots .0)) t′ → Shows t′ (after p (Plan n lots))
       shows-planned t′ w =
           shows-points t t′ s _ p (planned 0 n (lots .0) (p .points)) w replanned-is
-            (sym (records-still n (lots .0) 0 (opposite s) (p .points) (stands .index) (stands .point) (stands .number) (stands .there) (ap (same-side (opposite s)) (stands .side) ∙ other-side s))) sh
+          (sym (records-still n (lots .0) 0 (opposite s) (p .points) (stands .index) (stands .point) (stands .number) (stands .there) (ap (same-side (opposite s)) (stands .side) ∙ other-side s))) sh
 
     -- what a getter sees of it
     pub seen-point : (r : PointRecord) → r ≡ getD (held-in (row-of t s)) i blank → Some (record { side = s; kind = r .kind; station = r .station; lots = r .lots .0 }) ≡ nth (p .points) n
     seen-point r e =
         let k = e ∙ found-record in
         ap (λ (x : PointRecord). Some (record { side = s; kind = x .kind; station = x .station; lots = x .lots .0 })) k
-          ∙ ap (λ u. Some (record { side = u; kind = stands .point .kind; station = stands .point .station; lots = stands .point .lots })) (sym (stands .side))
-          ∙ sym found-point
+        ∙ ap (λ u. Some (record { side = u; kind = stands .point .kind; station = stands .point .station; lots = stands .point .lots })) (sym (stands .side))
+        ∙ sym found-point

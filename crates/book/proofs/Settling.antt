@@ -49,13 +49,15 @@ module _ (net : Net) (t : PointTable) (p : Plain) (f : Figures) (sh : Shows t p)
   pub closing-accepted : (c : Closing) (t′ : PointTable) → NoneBroken (close-rules (t .carried .amount .0) f) × (c ≡ closing-of (t .carried .amount .0) f) → t′ .entries ≡ t .entries → t′ .exits ≡ t .exits → t′ .allowed .dinars .0 ≡ c .allowed .0 → t′ .carried .amount .0 ≡ c .rest .0 → (p′ : Plain) × Handles net p (Close f) (Ok (Closed c)) p′ × Shows t′ p′
   closing-accepted c t′ v en ex al ca =
       let n = subst (λ z. NoneBroken (close-rules z f)) (sh .carried) (v .0) in
-      let e : c ≡ closing-of (p .carried) f = v .1 ∙ ap (λ z. closing-of z f) (sh .carried) in
-      (after p (Close f),
+      let e : c ≡ closing-of (p .carried) f = v .1 ∙ ap (λ z. closing-of z f) (sh .carried) in (
+        after p (Close f),
         subst (λ k. Handles net p (Close f) (Ok (Closed k)) (after p (Close f))) (sym e) (accepted n),
-        record { sides = sides; allowed = al ∙ ap (λ (k : Closing). k .allowed .0) e; carried = ca ∙ ap (λ (k : Closing). k .rest .0) e })
+        record { sides = sides; allowed = al ∙ ap (λ (k : Closing). k .allowed .0) e; carried = ca ∙ ap (λ (k : Closing). k .rest .0) e },
+      )
     where
       side : (s : Side) → ShowsSide (row-of t s) p s → ShowsSide (row-of t s) (after p (Close f)) s
       side s h = record { records = h .records; relief = h .relief }
+
       sides : (s : Side) → ShowsSide (row-of t′ s) (after p (Close f)) s
       sides Entry = subst (λ w. ShowsSide w (after p (Close f)) Entry) (sym en) (side Entry (sh .sides Entry))
       sides Exit = subst (λ w. ShowsSide w (after p (Close f)) Exit) (sym ex) (side Exit (sh .sides Exit))

@@ -50,5 +50,6 @@ shows-points t t′ s rs p qs w e o sh = record {
   where
     here : ShowsSide (row-of t′ s) (with-points p qs) s
     here = record { records = w .records ∙ e; relief = ap (λ (r : Relief). r .parts) (w .relief) ∙ sh .sides s .relief }
+
     there : ShowsSide (row-of t′ (opposite s)) (with-points p qs) (opposite s)
     there = subst (λ row. ShowsSide row (with-points p qs) (opposite s)) (sym (w .other)) (record { records = sh .sides (opposite s) .records ∙ o; relief = sh .sides (opposite s) .relief })

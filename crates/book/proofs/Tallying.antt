@@ -101,6 +101,7 @@ module _ (net : Net) (lawful : Lawful net) (e : PointRecord) where
           let p = sum-of-push (record-load net (x .station)) es e in
           let q = ap km (lawful .mirror (x .station) (e .station)) in
           ap (λ n. x .lots .0 * n) p ∙ ap (λ d. x .lots .0 * (record-reach net (x .station) es + e .lots .0 * d)) q ∙ omega arith
+
       by : (t : Bool) → sum-by (λ r. r .kind) (from (es ++ (e ∷ []))) k xs ≡ sum-by (λ r. r .kind) (from es) k xs + sum-by (λ r. r .kind) (brought net e) k xs → cond t (from (es ++ (e ∷ [])) x) 0 + sum-by (λ r. r .kind) (from (es ++ (e ∷ []))) k xs ≡ (cond t (from es x) 0 + sum-by (λ r. r .kind) (from es) k xs) + (cond t (brought net e x) 0 + sum-by (λ r. r .kind) (brought net e) k xs)
       by true h = let o = one in omega (arith, o, h)
       by false h = omega (arith, h)

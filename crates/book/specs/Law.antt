@@ -4,8 +4,15 @@ use Prim.Native.Nat.{ℕ, _≤_}
 use mathlib.Core.Path.{_≡_}
 use mathlib.Core.List.{List, _++_}
 use lib.ListN.{length, take}
+use Rattle.std.specs.declared.result.Result.{Result}
+use Rattle.std.specs.declared.result.Result.the-variants.{Ok, Err}
 use Rattle.terms.specs.declared.points.Side.{Side}
+use Rattle.terms.specs.declared.faults.SourceFault.{SourceFault}
+use Rattle.terms.specs.declared.faults.BookFault.{BookFault}
+use Rattle.terms.specs.declared.faults.BookFault.the-variants.{Source}
+use Rattle.terms.specs.Refusals.{Rule, NoneBroken}
 use Rattle.network.specs.Net.{Net}
+use Rattle.network.specs.Rules.{Made}
 use Rattle.rules.specs.declared.calls.Call.{Call}
 use Rattle.rules.specs.Points.{Plain}
 use Rattle.rules.specs.Plain.{Outcome}
@@ -40,3 +47,8 @@ pub record Alike (p q : Plain) : Type 0 where
 -- Two plain books that one table shows differ at most in their closings.
 abbrev pub Faithful : Type 0
 Faithful = (t : PointTable) (p q : Plain) → Shows t p → Shows t q → Alike p q
+
+-- A book of which P holds is made where the source breaks none of its rules; else the source's fault is passed on whole.
+abbrev pub Founded : {B : Type 0} → List Rule → (B → Type 0) → Result B BookFault → Type 0
+Founded rules P (Ok b) = NoneBroken rules × P b
+Founded rules P (Err f) = (e : SourceFault) × (f ≡ Source e) × Made {T = Unit {0}} rules (λ _. Unit {0}) (Err e)

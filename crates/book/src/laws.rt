@@ -4,5 +4,4 @@ ghost use Rattle.book.specs.Law.{Faithful};
 // Two plain books that one table shows differ at most in their closings.
 pub fn faithful()
     ensures { λ _. ⌜ Faithful ⌝ }
-{
-}
+{}

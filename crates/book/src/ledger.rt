@@ -5,14 +5,18 @@ ghost use lib.ListN.{length};
 ghost use Rattle.std.specs.Finite.{nth};
 ghost use Rattle.std.specs.Of.Vec.{vec-items};
 ghost use Rattle.std.specs.Vec.{made};
+ghost use Rattle.network.specs.Meanings.{of-trunk};
+ghost use Rattle.network.specs.Trunk.{trunk-net, trunk-rules};
 ghost use Rattle.rules.specs.Points.{on-side, lots-of};
 ghost use Rattle.rules.specs.Runs.{one};
 ghost use Rattle.book.specs.Follows.{Follows, Kept, opened, done, closed, drawn};
 ghost use Rattle.book.specs.Figures.{Sees, seen-point};
-ghost use Rattle.book.specs.Law.{Stands, Extends, Run};
+ghost use Rattle.book.specs.Law.{Stands, Extends, Run, Founded};
 use crate::reading::Point;
 use crate::table::PointTable;
 use network::source::Source;
+use network::trunk::Trunk;
+use network::trunk::TrunkSource;
 use pricing::decision::Draft;
 use revenue::figures::Closing;
 use revenue::figures::Figures;
@@ -21,6 +25,7 @@ use rules::calls::Call;
 use std::alloc::AllocError;
 use std::alloc::Global;
 use terms::faults::BookFault;
+use terms::faults::BookFromSource;
 use terms::measures::Dinars;
 use terms::measures::Lots;
 use terms::points::Kind;
@@ -39,7 +44,10 @@ impl<S: Source> Book<S> {
         ensures same { λ r. ⌜ r .source ≡ source ⌝ }
         ensures law { λ r. ⌜ Stands (S·Source .net source) [] (r .table) ⌝ }
     {
-        Book { source, table: PointTable::new() }
+        Book {
+            source,
+            table: PointTable::new(),
+        }
     }
 
     // Opens a point, and gives its number: points are numbered from 0 over both sides.
@@ -122,6 +130,16 @@ impl<S: Source> Book<S> {
     }
 }
 
+impl Book<Trunk> {
+    // An empty book over a trunk, from its positions in km.
+    pub fn on_trunk(heap: Global, positions: &[u32]) -> Result<Book<Trunk>, BookFault>
+        ensures { λ r. ⌜ Founded (trunk-rules (now (positions .entry))) (λ b. (of-trunk (b .source) ≡ trunk-net (now (positions .entry))) × Stands (trunk-net (now (positions .entry))) [] (b .table)) r ⌝ }
+    {
+        let trunk = Trunk::new(heap, positions)?;
+        Ok(Book::new(trunk))
+    }
+}
+
 // The figures of a book, each that of the plain book.
 impl<S: Source> Book<S> {
     // How many points are open, on both sides.
@@ -168,7 +186,11 @@ impl<S: Source> Book<S> {
 }
 
 // A new book, after these calls, with what each of them came back with.
-pub fn replay<S: Source + Drop>(heap: Global, source: S, calls: &[Call]) -> Result<(Book<S>, Vec<Result<Answer, BookFault>>), AllocError>
+pub fn replay<S: Source + Drop>(
+    heap: Global,
+    source: S,
+    calls: &[Call],
+) -> Result<(Book<S>, Vec<Result<Answer, BookFault>>), AllocError>
     ensures { λ r. ⌜ made r (λ x. (x .0 .source ≡ source) × Run (S·Source .net source) (now (calls .entry)) (vec-items (x .1)) (x .0 .table)) ⌝ }
 {
     let mut book = Book::new(source);

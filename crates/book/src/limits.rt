@@ -2,6 +2,7 @@
 
 // The points of each side.
 pub const MOST_ENTRIES: usize = 32;
+
 pub const MOST_EXITS: usize = 96;
 
 // The planned lots of a side.

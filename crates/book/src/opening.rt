@@ -30,7 +30,13 @@ fn most_points(side: Side) -> usize
 }
 
 impl PointTable {
-    fn check_open<S: Source>(&self, source: &S, side: Side, kind: Kind, station: u32) -> Result<(), BookFault>
+    fn check_open<S: Source>(
+        &self,
+        source: &S,
+        side: Side,
+        kind: Kind,
+        station: u32,
+    ) -> Result<(), BookFault>
         ensures checked { λ r. ⌜ Checked (S·Source .net (now (source .entry))) (now (self .entry)) (Call.Open side kind station) r ⌝ }
         ensures space { λ r. ⌜ made r (λ _. length (held-in (row-of (now (self .entry)) side)) < most-points Exit) ⌝ }
     {
@@ -48,13 +54,27 @@ impl PointTable {
     }
 
     // The number of the new point.
-    pub(crate) fn open<S: Source>(&mut self, source: &S, side: Side, kind: Kind, station: u32) -> Result<u32, BookFault>
+    pub(crate) fn open<S: Source>(
+        &mut self,
+        source: &S,
+        side: Side,
+        kind: Kind,
+        station: u32,
+    ) -> Result<u32, BookFault>
         ensures kept { λ r. ⌜ Kept r (now (self .entry)) (now (self .exit)) ⌝ }
         ensures step { λ r. ⌜ Follows (S·Source .net (now (source .entry))) (now (self .entry)) (Call.Open side kind station) (opened r) (now (self .exit)) ⌝ }
     {
         self.check_open(source, side, kind, station)?;
         let number = self.points();
-        self.add(side, PointRecord { number, kind, station, lots: Lots(0) });
+        self.add(
+            side,
+            PointRecord {
+                number,
+                kind,
+                station,
+                lots: Lots(0),
+            },
+        );
         Ok(number)
     }
 }

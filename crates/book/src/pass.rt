@@ -19,7 +19,10 @@ impl Pass {
     fn start() -> Pass
         ensures { λ r. ⌜ r ≡ unmet ⌝ }
     {
-        Pass { lacking: false, far: false }
+        Pass {
+            lacking: false,
+            far: false,
+        }
     }
 
     // One distance more.
@@ -27,8 +30,14 @@ impl Pass {
         ensures { λ r. ⌜ r ≡ met self (kms distance) ⌝ }
     {
         match distance {
-            None => Pass { lacking: true, far: self.far },
-            Some(km) => Pass { lacking: self.lacking, far: self.far || km.0 > FARTHEST_KM },
+            None => Pass {
+                lacking: true,
+                far: self.far,
+            },
+            Some(km) => Pass {
+                lacking: self.lacking,
+                far: self.far || km.0 > FARTHEST_KM,
+            },
         }
     }
 

@@ -41,7 +41,12 @@ impl PointTable {
             return None;
         };
         let found = self.row(side).held()[at];
-        Some(Point { side, kind: found.kind, station: found.station, lots: found.lots })
+        Some(Point {
+            side,
+            kind: found.kind,
+            station: found.station,
+            lots: found.lots,
+        })
     }
 
     // The planned lots of a side.

@@ -18,7 +18,11 @@ use terms::points::Side;
 fn nothing() -> Weights
     ensures { λ r. ⌜ r ≡ no-weights ⌝ }
 {
-    Weights { main: 0, other: 0, storage: 0 }
+    Weights {
+        main: 0,
+        other: 0,
+        storage: 0,
+    }
 }
 
 // One figure more, for the element of this side and kind.
@@ -27,13 +31,37 @@ fn added(side: Side, kind: Kind, to: Weights, part: u64) -> Weights
     requires small { ⌜ part ≤ heaviest ⌝ }
     ensures { λ r. ⌜ r ≡ plus side kind to part ⌝ }
 {
-    let Weights { main, other, storage } = to;
+    let Weights {
+        main,
+        other,
+        storage,
+    } = to;
     match (side, kind) {
-        (_, Kind::Storage) => Weights { main, other, storage: storage + part },
-        (Side::Entry, Kind::Transmission) => Weights { main: main + part, other, storage },
-        (Side::Exit, Kind::Local) => Weights { main: main + part, other, storage },
-        (Side::Entry, Kind::Production) => Weights { main, other: other + part, storage },
-        (Side::Exit, Kind::Interconnector) => Weights { main, other: other + part, storage },
+        (_, Kind::Storage) => Weights {
+            main,
+            other,
+            storage: storage + part,
+        },
+        (Side::Entry, Kind::Transmission) => Weights {
+            main: main + part,
+            other,
+            storage,
+        },
+        (Side::Exit, Kind::Local) => Weights {
+            main: main + part,
+            other,
+            storage,
+        },
+        (Side::Entry, Kind::Production) => Weights {
+            main,
+            other: other + part,
+            storage,
+        },
+        (Side::Exit, Kind::Interconnector) => Weights {
+            main,
+            other: other + part,
+            storage,
+        },
         _ => to,
     }
 }
@@ -56,8 +84,16 @@ pub(crate) fn side_lots(side: Side, points: &[PointRecord]) -> SideLots
     requires { ⌜ record-lots (now points) ≤ most-lots ⌝ }
     ensures { λ r. ⌜ r ≡ record-side-lots side (now (points .entry)) ⌝ }
 {
-    let Weights { main, other, storage } = lots_by_element(side, points);
-    SideLots { main: Lots(main as u32), other: Lots(other as u32), storage: Lots(storage as u32) }
+    let Weights {
+        main,
+        other,
+        storage,
+    } = lots_by_element(side, points);
+    SideLots {
+        main: Lots(main as u32),
+        other: Lots(other as u32),
+        storage: Lots(storage as u32),
+    }
 }
 
 // The km of a distance; 0 where there is none.
@@ -71,7 +107,12 @@ fn length_of(distance: Option<Km>) -> u64
 }
 
 // The sum of lots times distance from a point to the exits, and the exits' weights with what the point brings them.
-fn weigh_against<S: Source>(source: &S, from: PointRecord, exits: &[PointRecord], before: Weights) -> (u64, Weights)
+fn weigh_against<S: Source>(
+    source: &S,
+    from: PointRecord,
+    exits: &[PointRecord],
+    before: Weights,
+) -> (u64, Weights)
     requires few { ⌜ Within before heaviest ⌝ }
     requires lots { ⌜ from .lots .0 ≤ most-lots ⌝ }
     requires light { ⌜ record-lots (now exits) ≤ most-lots ⌝ }
@@ -91,7 +132,11 @@ fn weigh_against<S: Source>(source: &S, from: PointRecord, exits: &[PointRecord]
 }
 
 // The weights of the entries' and of the exits' elements. Each distance is asked once.
-pub(crate) fn six_weights<S: Source>(source: &S, entries: &[PointRecord], exits: &[PointRecord]) -> (Weights, Weights)
+pub(crate) fn six_weights<S: Source>(
+    source: &S,
+    entries: &[PointRecord],
+    exits: &[PointRecord],
+) -> (Weights, Weights)
     requires entries { ⌜ record-lots (now entries) ≤ most-lots ⌝ }
     requires exits { ⌜ record-lots (now exits) ≤ most-lots ⌝ }
     ensures entries { λ r. ⌜ r .0 ≡ record-weights (S·Source .net (now (source .entry))) Side.Entry (now (entries .entry)) (now (exits .entry)) ⌝ }
@@ -102,7 +147,12 @@ pub(crate) fn six_weights<S: Source>(source: &S, entries: &[PointRecord], exits:
     for entry in entries {
         let (reach, with_entry) = weigh_against(source, *entry, exits, of_exits);
         of_exits = with_entry;
-        of_entries = added(Side::Entry, entry.kind, of_entries, entry.lots.0 as u64 * reach);
+        of_entries = added(
+            Side::Entry,
+            entry.kind,
+            of_entries,
+            entry.lots.0 as u64 * reach,
+        );
     }
     (of_entries, of_exits)
 }

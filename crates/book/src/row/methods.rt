@@ -19,8 +19,17 @@ impl Row {
         ensures held { λ r. ⌜ held-in r ≡ [] ⌝ }
         ensures relief { λ r. ⌜ r .relief .parts ≡ 0 ⌝ }
     {
-        let blank = PointRecord { number: 0, kind: Kind::Transmission, station: 0, lots: Lots(0) };
-        Row { places: [blank; MOST_EXITS], count: 0, relief: Relief::NONE }
+        let blank = PointRecord {
+            number: 0,
+            kind: Kind::Transmission,
+            station: 0,
+            lots: Lots(0),
+        };
+        Row {
+            places: [blank; MOST_EXITS],
+            count: 0,
+            relief: Relief::NONE,
+        }
     }
 
     // The open points.

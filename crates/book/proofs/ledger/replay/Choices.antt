@@ -7,6 +7,6 @@ use Rattle.book.proofs.ledger.replay.Given as given
 
 abbrev pub Inv-loop-call : given.InvT-loop-call
 Inv-loop-call g l =
-    (l .book .source ≡ l .source)
+    (l .book .source ≡ l .entry .book .source)
     × (vec-len (l .outcomes) ≡ l .call-index)
-    × Stands (g .S·Source .net (l .source)) (paired (take (l .call-index) (l .calls)) (vec-items (l .outcomes))) (l .book .table)
+    × Stands (g .S·Source .net (l .entry .book .source)) (paired (take (l .call-index) (l .calls)) (vec-items (l .outcomes))) (l .book .table)

@@ -19,7 +19,7 @@ loop-point-again g c =
     let i = c .loop-point .point-index in
     let w : c .loop-point .point-index < length (c .args .points .now) = search needs in
     subst (λ rs. Met net (c .args .station) rs (c .meet-so-far .result)) (sym (take-more points i blank w))
-      (met-more net (c .args .station) (take i points) (getD points i blank) (c .loop-point .so-far) (c .meet-so-far .result) _ (c .meet-so-far .ensures) (c .distance .ensures) (c .loop-point .inv))
+    (met-more net (c .args .station) (take i points) (getD points i blank) (c .loop-point .so-far) (c .meet-so-far .result) _ (c .meet-so-far .ensures) (c .distance .ensures) (c .loop-point .inv))
 
 pub returns : need.returns
 returns g c =

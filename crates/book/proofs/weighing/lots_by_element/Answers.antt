@@ -23,7 +23,8 @@ added-sums-requires c κs =
     let o = sum-of-at (λ r. r .lots .0) points i blank w in
     record {
       few = subst (λ s. Within s (2 * heaviest)) (sym (c .loop-point .inv)) (within-le _ (record-lots (take i points)) _ (omega (arith, t, light)) (tally-within (c .args .side) (λ r. r .lots .0) (take i points)));
-      small = omega (arith, o, light) }
+      small = omega (arith, o, light);
+    }
 
 pub loop-point-again : need.loop-point-again
 loop-point-again c =
@@ -31,8 +32,8 @@ loop-point-again c =
     let i = c .loop-point .point-index in
     let w : c .loop-point .point-index < length (c .args .points .now) = search needs in
     c .added-sums .ensures
-      ∙ ap (λ s. plus (c .args .side) (getD points i blank .kind) s (getD points i blank .lots .0)) (c .loop-point .inv)
-      ∙ tally-more (c .args .side) (λ x. x .lots .0) points i blank w
+    ∙ ap (λ s. plus (c .args .side) (getD points i blank .kind) s (getD points i blank .lots .0)) (c .loop-point .inv)
+    ∙ tally-more (c .args .side) (λ x. x .lots .0) points i blank w
 
 pub returns : need.returns
 returns c =

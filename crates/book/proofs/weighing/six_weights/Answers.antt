@@ -13,9 +13,12 @@ use Rattle.book.proofs.weighing.six_weights.Needs as need
 
 pub loop-entry-holds : need.loop-entry-holds
 loop-entry-holds g c =
-    let net = g .S·Source .net (c .args .source .now) in
-    ( c .nothing-of-entries .ensures, subst (λ s. Within s 0) (sym (c .nothing-of-entries .ensures)) within-none,
-      c .nothing-of-exits .ensures ∙ none-other net Exit (c .args .exits .now), subst (λ s. Within s 0) (sym (c .nothing-of-exits .ensures)) within-none )
+    let net = g .S·Source .net (c .args .source .now) in (
+      c .nothing-of-entries .ensures,
+      subst (λ s. Within s 0) (sym (c .nothing-of-entries .ensures)) within-none,
+      c .nothing-of-exits .ensures ∙ none-other net Exit (c .args .exits .now),
+      subst (λ s. Within s 0) (sym (c .nothing-of-exits .ensures)) within-none,
+    )
 
 pub weigh-against-reach-requires : need.weigh-against-reach-requires
 weigh-against-reach-requires g c κs =
@@ -59,15 +62,16 @@ loop-entry-again g c =
     let a = c .weigh-against-reach .ensures in
     let reach = c .weigh-against-reach .result .0 in
     let q = times-le (e .lots .0) (c .weigh-against-reach .result .0) most-reach (a .short) in
-    let m = sum-of-more (λ r. r .lots .0) entries i blank w in
-    ( c .added-of-entries .ensures
-        ∙ ap (λ s. plus Entry (e .kind) s (e .lots .0 * reach)) (c .loop-entry .inv .0)
-        ∙ ap (λ n. plus Entry (e .kind) (record-weights net Entry (take i entries) exits) (e .lots .0 * n)) (a .reach)
-        ∙ tally-more Entry (λ r. r .lots .0 * record-reach net (r .station) exits) entries i blank w,
+    let m = sum-of-more (λ r. r .lots .0) entries i blank w in (
+      c .added-of-entries .ensures
+          ∙ ap (λ s. plus Entry (e .kind) s (e .lots .0 * reach)) (c .loop-entry .inv .0)
+          ∙ ap (λ n. plus Entry (e .kind) (record-weights net Entry (take i entries) exits) (e .lots .0 * n)) (a .reach)
+          ∙ tally-more Entry (λ r. r .lots .0 * record-reach net (r .station) exits) entries i blank w,
       subst (λ s. Within s (most-reach * record-lots (take (i + 1) entries))) (sym (c .added-of-entries .ensures))
-        (within-le _ (most-reach * record-lots (take i entries) + e .lots .0 * reach) _ (omega (arith, q, m)) (plus-within Entry (e .kind) (c .loop-entry .of-entries) _ _ (c .loop-entry .inv .1))),
+          (within-le _ (most-reach * record-lots (take i entries) + e .lots .0 * reach) _ (omega (arith, q, m)) (plus-within Entry (e .kind) (c .loop-entry .of-entries) _ _ (c .loop-entry .inv .1))),
       a .brought ∙ ap (λ s. both s (tally Exit (brought net e) exits)) (c .loop-entry .inv .2) ∙ other-more net (g .S·Source·met .lawful (c .args .source .now)) Exit exits entries i blank w,
-      within-le _ (most-reach * record-lots (take i entries) + e .lots .0 * reach) _ (omega (arith, q, m)) (a .few (most-reach * record-lots (take i entries)) (c .loop-entry .inv .3)) )
+      within-le _ (most-reach * record-lots (take i entries) + e .lots .0 * reach) _ (omega (arith, q, m)) (a .few (most-reach * record-lots (take i entries)) (c .loop-entry .inv .3)),
+    )
 
 pub returns : need.returns
 returns g c =
@@ -76,4 +80,5 @@ returns g c =
     let e = take-all (c .loop-entry .entry-index) (c .args .entries .now) l in
     record {
       entries = c .loop-entry .inv .0 ∙ ap (λ rs. record-weights net Entry rs (c .args .exits .now)) e;
-      exits = c .loop-entry .inv .2 ∙ ap (λ rs. record-weights net Exit (c .args .exits .now) rs) e }
+      exits = c .loop-entry .inv .2 ∙ ap (λ rs. record-weights net Exit (c .args .exits .now) rs) e;
+    }

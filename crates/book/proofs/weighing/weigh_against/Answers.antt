@@ -76,7 +76,8 @@ added-weights-requires g c κs =
     let q = times-le (from .lots .0) (x .lots .0 * c .length-of .result) most-reach p in
     record {
       few = within-le _ (heaviest + from .lots .0 * c .loop-exit .reach) _ (omega (arith, k, l)) (c .loop-exit .inv .2 heaviest (c .pre .few));
-      small = omega (arith, q, l) }
+      small = omega (arith, q, l);
+    }
 
 pub loop-exit-again : need.loop-exit-again
 loop-exit-again g c =
@@ -87,15 +88,16 @@ loop-exit-again g c =
     let i = c .loop-exit .exit-index in
     let w : c .loop-exit .exit-index < length (c .args .exits .now) = search needs in
     let d = c .length-of .ensures ∙ ap km (c .distance .ensures) in
-    let x = getD exits i blank in
-    ( ap (λ n. n + x .lots .0 * c .length-of .result) (c .loop-exit .inv .0) ∙ ap (λ n. record-reach net (from .station) (take i exits) + x .lots .0 * n) d ∙ sum-of-more (record-load net (from .station)) exits i blank w,
+    let x = getD exits i blank in (
+      ap (λ n. n + x .lots .0 * c .length-of .result) (c .loop-exit .inv .0) ∙ ap (λ n. record-reach net (from .station) (take i exits) + x .lots .0 * n) d ∙ sum-of-more (record-load net (from .station)) exits i blank w,
       c .added-weights .ensures
-        ∙ ap (λ s. plus Exit (x .kind) s (from .lots .0 * (x .lots .0 * c .length-of .result))) (c .loop-exit .inv .1)
-        ∙ plus-both Exit (x .kind) (c .args .before) _ _
-        ∙ ap (λ n. both (c .args .before) (plus Exit (x .kind) (tally Exit (brought net from) (take i exits)) (from .lots .0 * (x .lots .0 * n)))) d
-        ∙ ap (both (c .args .before)) (tally-more Exit (brought net from) exits i blank w),
+          ∙ ap (λ s. plus Exit (x .kind) s (from .lots .0 * (x .lots .0 * c .length-of .result))) (c .loop-exit .inv .1)
+          ∙ plus-both Exit (x .kind) (c .args .before) _ _
+          ∙ ap (λ n. both (c .args .before) (plus Exit (x .kind) (tally Exit (brought net from) (take i exits)) (from .lots .0 * (x .lots .0 * n)))) d
+          ∙ ap (both (c .args .before)) (tally-more Exit (brought net from) exits i blank w),
       λ b h. subst (λ s. Within s (b + from .lots .0 * (c .loop-exit .reach + x .lots .0 * c .length-of .result))) (sym (c .added-weights .ensures))
-        (within-le _ (b + from .lots .0 * c .loop-exit .reach + from .lots .0 * (x .lots .0 * c .length-of .result)) _ (omega (arith, mul-add (from .lots .0) (c .loop-exit .reach) (x .lots .0 * c .length-of .result))) (plus-within Exit (x .kind) (c .loop-exit .weights) _ _ (c .loop-exit .inv .2 b h))) )
+          (within-le _ (b + from .lots .0 * c .loop-exit .reach + from .lots .0 * (x .lots .0 * c .length-of .result)) _ (omega (arith, mul-add (from .lots .0) (c .loop-exit .reach) (x .lots .0 * c .length-of .result))) (plus-within Exit (x .kind) (c .loop-exit .weights) _ _ (c .loop-exit .inv .2 b h))),
+    )
 
 pub returns : need.returns
 returns g c =
@@ -110,4 +112,5 @@ returns g c =
       reach = r ∙ ap (record-reach net (from .station)) e;
       short = omega (arith, r, b);
       brought = c .loop-exit .inv .1 ∙ ap (λ rs. both (c .args .before) (tally Exit (brought net from) rs)) e;
-      few = c .loop-exit .inv .2 }
+      few = c .loop-exit .inv .2;
+    }

@@ -28,8 +28,10 @@ returns-then-lots-others c =
     let k = lots-replanned t (c .in-Some .side) (c .in-Some .at) (c .args .lots .0) _ _ (c .in-Some .ensures tt .0) (ap (λ rs. getD rs (c .in-Some .at) blank .lots .0) e) (c .lots .ensures .value ∙ ap record-lots row) in
     let b = c .lots .ensures .bound in
     record {
-      checked = λ net p sh. inr (known t p sh (c .in-Some .side) (c .in-Some .at) (c .args .point) (c .in-Some .ensures tt),
-        inl (overplanned t p sh (c .in-Some .side) (c .in-Some .at) (c .args .point) (c .in-Some .ensures tt) (c .args .lots) (omega (arith, k, b)), refl));
+      checked = λ net p sh. inr (
+        known t p sh (c .in-Some .side) (c .in-Some .at) (c .args .point) (c .in-Some .ensures tt),
+        inl (overplanned t p sh (c .in-Some .side) (c .in-Some .at) (c .args .point) (c .in-Some .ensures tt) (c .args .lots) (omega (arith, k, b)), refl),
+      );
       place = tt;
     }
 
@@ -41,7 +43,9 @@ returns c =
     let k = lots-replanned t (c .in-Some .side) (c .in-Some .at) (c .args .lots .0) _ _ (c .in-Some .ensures tt .0) (ap (λ rs. getD rs (c .in-Some .at) blank .lots .0) e) (c .lots .ensures .value ∙ ap record-lots row) in
     let b = c .lots .ensures .bound in
     record {
-      checked = λ net p sh. (known t p sh (c .in-Some .side) (c .in-Some .at) (c .args .point) (c .in-Some .ensures tt),
-        (not-overplanned t p sh (c .in-Some .side) (c .in-Some .at) (c .args .point) (c .in-Some .ensures tt) (c .args .lots) (omega (arith, k, b)), tt));
+      checked = λ net p sh. (
+        known t p sh (c .in-Some .side) (c .in-Some .at) (c .args .point) (c .in-Some .ensures tt),
+        (not-overplanned t p sh (c .in-Some .side) (c .in-Some .at) (c .args .point) (c .in-Some .ensures tt) (c .args .lots) (omega (arith, k, b)), tt),
+      );
       place = record { place = c .in-Some .ensures tt; light = omega (arith, k, b) };
     }

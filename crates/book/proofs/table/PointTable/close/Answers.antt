@@ -20,5 +20,5 @@ returns c =
       kept = tt;
       step = λ net p sh.
           closing-accepted net (c .args .self .now) p (c .args .figures) sh closing _ (c .in-Continue-closing .ensures tt .ruled) refl refl
-            (ap (λ (d : Dinars ℕ). d .0) allowed) (ap (λ (d : Dinars ℤ). d .0) rest);
+          (ap (λ (d : Dinars ℕ). d .0) allowed) (ap (λ (d : Dinars ℤ). d .0) rest);
     }

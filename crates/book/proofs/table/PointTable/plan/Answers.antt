@@ -24,8 +24,10 @@ returns c =
     let e = c .held .ensures .value ∙ ap held-in (c .row .ensures) in
     record {
       kept = tt;
-      step = λ net p sh.
-          (after p (Plan (c .args .point) (c .args .lots)), accepted (found .checked net p sh),
-            shows-planned t p sh side at (c .args .point) (found .place .place) (c .args .lots) (c .put .last .self)
-              (subst (λ rs. Rewritten t side (set (held-in (row-of t side)) at (relotted (getD rs at blank) (c .args .lots .0))) (c .put .last .self)) e (c .put .ensures)));
+      step = λ net p sh. (
+        after p (Plan (c .args .point) (c .args .lots)),
+        accepted (found .checked net p sh),
+        shows-planned t p sh side at (c .args .point) (found .place .place) (c .args .lots) (c .put .last .self)
+            (subst (λ rs. Rewritten t side (set (held-in (row-of t side)) at (relotted (getD rs at blank) (c .args .lots .0))) (c .put .last .self)) e (c .put .ensures)),
+      );
     }

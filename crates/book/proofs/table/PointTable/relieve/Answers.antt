@@ -17,9 +17,11 @@ returns-in-Entry c =
     let b = c .in-Some .relief .bounded in
     record {
       kept = tt;
-      step = λ net p sh.
-          (after p (Relieve (c .args .side) (c .args .parts)), accepted ((λ k. omega (arith, e, b)), tt),
-            rw (c .in-Entry .is) (shows-relieved (c .args .self .now) _ p Entry (c .args .parts) (c .relieve .ensures .held) (ap (λ (r : Relief). r .parts) (c .relieve .ensures .relief) ∙ e) refl refl refl sh));
+      step = λ net p sh. (
+        after p (Relieve (c .args .side) (c .args .parts)),
+        accepted ((λ k. omega (arith, e, b)), tt),
+        rw (c .in-Entry .is) (shows-relieved (c .args .self .now) _ p Entry (c .args .parts) (c .relieve .ensures .held) (ap (λ (r : Relief). r .parts) (c .relieve .ensures .relief) ∙ e) refl refl refl sh),
+      );
     }
 
 pub returns-in-Exit : need.returns-in-Exit
@@ -28,7 +30,9 @@ returns-in-Exit c =
     let b = c .in-Some .relief .bounded in
     record {
       kept = tt;
-      step = λ net p sh.
-          (after p (Relieve (c .args .side) (c .args .parts)), accepted ((λ k. omega (arith, e, b)), tt),
-            rw (c .in-Exit .is) (shows-relieved (c .args .self .now) _ p Exit (c .args .parts) (c .relieve-in-Exit .ensures .held) (ap (λ (r : Relief). r .parts) (c .relieve-in-Exit .ensures .relief) ∙ e) refl refl refl sh));
+      step = λ net p sh. (
+        after p (Relieve (c .args .side) (c .args .parts)),
+        accepted ((λ k. omega (arith, e, b)), tt),
+        rw (c .in-Exit .is) (shows-relieved (c .args .self .now) _ p Exit (c .args .parts) (c .relieve-in-Exit .ensures .held) (ap (λ (r : Relief). r .parts) (c .relieve-in-Exit .ensures .relief) ∙ e) refl refl refl sh),
+      );
     }
