@@ -17,7 +17,7 @@ use Rattle.rules.specs.Points.{Point, Plain, same-side, opposite, on-side, lots
 use Rattle.rules.specs.Plain.{planned, Overplanned, after}
 use Rattle.book.specs.declared.record.PointRecord.{PointRecord}
 use Rattle.book.specs.declared.table.PointTable.{PointTable}
-use Rattle.book.specs.Records.{record-of, records-from, record-lots, relotted, blank, Place}
+use Rattle.book.specs.Records.{record-with, record-of, records-from, record-lots, relotted, blank, Place}
 use Rattle.book.specs.Shows.{held-in, row-of, Shows}
 use Rattle.book.specs.Steps.{Located, Rewritten, replanned}
 use Rattle.book.proofs.Sums.{sum-of-set, sum-of-at}
@@ -35,6 +35,11 @@ lots-replanned t s i lots old total l o k =
     let e = sum-of-set (λ r. r .lots .0) (held-in (row-of t s)) i blank (relotted (getD (held-in (row-of t s)) i blank) lots) l in
     let a = sum-of-at (λ r. r .lots .0) (held-in (row-of t s)) i blank l in
     omega arith
+
+-- the record at its place, part by part
+pub recorded : (t : PointTable) (s : Side) (i n : ℕ) → Place (held-in (row-of t s)) n (Some i) → (r : PointRecord) → r ≡ getD (held-in (row-of t s)) i blank → getD (held-in (row-of t s)) i blank ≡ record-with n (r .kind) (r .station) (r .lots .0)
+recorded t s i n place r e =
+    sym e ∙ ap (λ m. record-with m (r .kind) (r .station) (r .lots .0)) (ap (λ (x : PointRecord). x .number) e ∙ place .1)
 
 module _ (t : PointTable) (p : Plain) (sh : Shows t p) where
   -- no such point

@@ -1,4 +1,5 @@
 // The book, and runs of its calls.
+ghost use Prim.Native.Nat.{_+_};
 ghost use mathlib.Core.Path.{_≡_};
 ghost use mathlib.Core.List.{[]};
 ghost use lib.ListN.{length};
@@ -10,7 +11,9 @@ ghost use Rattle.network.specs.Trunk.{trunk-net, trunk-rules};
 ghost use Rattle.rules.specs.Points.{on-side, lots-of};
 ghost use Rattle.rules.specs.Runs.{one};
 ghost use Rattle.book.specs.Follows.{Follows, Kept, opened, done, closed, drawn};
-ghost use Rattle.book.specs.Figures.{Sees, seen-point};
+ghost use Rattle.book.specs.Records.{record-lots};
+ghost use Rattle.book.specs.Shows.{held-in, row-of};
+ghost use Rattle.book.specs.Figures.{Sees, Recorded, seen-point};
 ghost use Rattle.book.specs.Law.{Stands, Extends, Run, Founded};
 use crate::reading::Point;
 use crate::table::PointTable;
@@ -144,42 +147,48 @@ impl Book<Trunk> {
 impl<S: Source> Book<S> {
     // How many points are open, on both sides.
     pub fn points(&self) -> u32
-        ensures { λ r. ⌜ Sees (now (self .entry) .table) (λ p. r ≡ length (p .points)) ⌝ }
+        ensures value { λ r. ⌜ r ≡ length (held-in (now (self .entry) .table .entries)) + length (held-in (now (self .entry) .table .exits)) ⌝ }
+        ensures figure { λ r. ⌜ Sees (now (self .entry) .table) (λ p. r ≡ length (p .points)) ⌝ }
     {
         self.table.points()
     }
 
     // The point with this number.
     pub fn point(&self, number: u32) -> Option<Point>
-        ensures { λ r. ⌜ Sees (now (self .entry) .table) (λ p. seen-point r ≡ nth (p .points) number) ⌝ }
+        ensures value { λ r. ⌜ Recorded (now (self .entry) .table) number r ⌝ }
+        ensures figure { λ r. ⌜ Sees (now (self .entry) .table) (λ p. seen-point r ≡ nth (p .points) number) ⌝ }
     {
         self.table.point(number)
     }
 
     // The planned lots of a side.
     pub fn lots(&self, side: Side) -> Lots
-        ensures { λ r. ⌜ Sees (now (self .entry) .table) (λ p. r .0 ≡ lots-of (on-side side (p .points))) ⌝ }
+        ensures value { λ r. ⌜ r .0 ≡ record-lots (held-in (row-of (now (self .entry) .table) side)) ⌝ }
+        ensures figure { λ r. ⌜ Sees (now (self .entry) .table) (λ p. r .0 ≡ lots-of (on-side side (p .points))) ⌝ }
     {
         self.table.lots(side)
     }
 
     // The storage relief of a side, in ten-thousandths.
     pub fn relief(&self, side: Side) -> u32
-        ensures { λ r. ⌜ Sees (now (self .entry) .table) (λ p. r ≡ p .relief side) ⌝ }
+        ensures value { λ r. ⌜ r ≡ row-of (now (self .entry) .table) side .relief .parts ⌝ }
+        ensures figure { λ r. ⌜ Sees (now (self .entry) .table) (λ p. r ≡ p .relief side) ⌝ }
     {
         self.table.relief(side)
     }
 
     // The allowed revenue of the last closed period, or 0.
     pub fn allowed(&self) -> Dinars<u64>
-        ensures { λ r. ⌜ Sees (now (self .entry) .table) (λ p. r .0 ≡ p .allowed) ⌝ }
+        ensures value { λ r. ⌜ r ≡ now (self .entry) .table .allowed .dinars ⌝ }
+        ensures figure { λ r. ⌜ Sees (now (self .entry) .table) (λ p. r .0 ≡ p .allowed) ⌝ }
     {
         self.table.allowed()
     }
 
     // What is carried on to the next period.
     pub fn carried(&self) -> Dinars<i64>
-        ensures { λ r. ⌜ Sees (now (self .entry) .table) (λ p. r .0 ≡ p .carried) ⌝ }
+        ensures value { λ r. ⌜ r ≡ now (self .entry) .table .carried .amount ⌝ }
+        ensures figure { λ r. ⌜ Sees (now (self .entry) .table) (λ p. r .0 ≡ p .carried) ⌝ }
     {
         self.table.carried()
     }

@@ -5,4 +5,6 @@ use Rattle.book.proofs.Showing.{side-lots}
 use Rattle.book.proofs.table.PointTable.lots.Needs as need
 
 pub returns : need.returns
-returns c = λ p sh. c .lots .ensures .value ∙ ap (λ row. record-lots (held-in row)) (c .row .ensures) ∙ side-lots (c .args .self .now) p sh (c .args .side)
+returns c =
+    let v = c .lots .ensures .value ∙ ap (λ row. record-lots (held-in row)) (c .row .ensures) in
+    record { value = v; figure = λ p sh. v ∙ side-lots (c .args .self .now) p sh (c .args .side) }

@@ -19,7 +19,7 @@ returns g c = record {
   kept = tt;
   step = λ p sh.
       let call = Open (c .args .side) (c .args .kind) (c .args .station) in
-      let n = c .points-number .ensures p sh in (
+      let n = c .points-number .ensures .figure p sh in (
         after p call,
         subst (λ m. Handles (g .S·Source .net (c .args .source .now)) p call (Ok (Opened m)) (after p call)) (sym n) (accepted (c .in-Continue-check-open .ensures tt .checked p sh)),
         shows-opened (c .args .self .now) (c .add .last .self) p (c .args .side) (c .args .kind) (c .args .station) (c .points-number .result) n (c .add .ensures) sh,

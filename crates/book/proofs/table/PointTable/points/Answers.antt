@@ -5,8 +5,10 @@ use Rattle.book.proofs.Showing.{point-count}
 use Rattle.book.proofs.table.PointTable.points.Needs as need
 
 pub returns : need.returns
-returns c = λ p sh.
-    let n = point-count (c .args .self .now) p sh in
+returns c =
     let e = ap length (c .held .ensures .value) in
     let x = ap length (c .held-2 .ensures .value) in
-    omega (arith, e, x)
+    record {
+      value = omega (arith, e, x);
+      figure = λ p sh. let n = point-count (c .args .self .now) p sh in omega (arith, e, x, n);
+    }
