@@ -1,0 +1,12 @@
+pub mod Sums
+pub mod Records
+pub mod Places
+pub mod Showing
+pub mod Passing
+pub mod Openings
+pub mod Plans
+pub mod Settling
+pub mod Tallying
+pub mod Draws
+pub mod Faithfulness
+pub mod Runs
