@@ -1,6 +1,7 @@
 // Runs a sheet: the file that the first argument names, or else standard input.
-// `--distances` and `--tariffs` show built-in figures instead.
+// `--distances`, `--tariffs` and `--book` show built-in figures instead.
 mod examples;
+mod story;
 
 use sheet::run::run_sheet;
 use examples::show_distances;
@@ -11,6 +12,7 @@ use std::error::AnyError;
 use std::fs;
 use std::io;
 use std::io::Read;
+use story::show_book;
 
 // One byte more than a sheet may have, so that a longer one is seen to be too long and no more of it is held.
 const MOST_HELD: u64 = 65_537;
@@ -39,6 +41,9 @@ fn run(rt: &LibcRuntime) -> Result<(), AnyError> {
             }
             if word.as_str() == "--tariffs" {
                 return show_tariffs(rt);
+            }
+            if word.as_str() == "--book" {
+                return show_book(rt);
             }
             print_sheet(rt, read_all(rt.alloc(), fs::open(rt, word.as_str())?)?)
         }
