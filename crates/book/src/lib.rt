@@ -12,8 +12,12 @@ mod record;
 mod relieving;
 mod row;
 mod table;
+#[cfg(test)]
+mod tests;
 mod weighing;
 
 pub use ledger::Book;
 pub use ledger::replay;
 pub use reading::Point;
+pub use reading::PointDebug;
+pub use reading::PointPartialEq;
