@@ -28,11 +28,11 @@ written n ws a b v c d sq ha hb hd =
     let apart : (c * n + d ≡ a * n + b → ⊥) → at n (set ws (a * n + b) v) c d ≡ at n ws c d = λ ne. getD-set-other ws (a * n + b) (c * n + d) v 0 ne in
     ⊎-elim
     (λ p. ⊎-elim
-      (λ q.
-        let there : c * n + d ≡ a * n + b = cc (p .1, q .1) in
-        let e : at n (set ws (a * n + b) v) c d ≡ v = ap (λ (x : ℕ). getD (set ws (a * n + b) v) x 0) there ∙ getD-set-same ws (a * n + b) v 0 in-list in
-        simp (p .0, q .0) e)
-      (λ q. simp (p .0, q .0) (apart (λ e. q .1 (cell-column n c d a b hd hb e))))
-      (eqb-tells d b))
+    (λ q.
+    let there : c * n + d ≡ a * n + b = cc (p .1, q .1) in
+    let e : at n (set ws (a * n + b) v) c d ≡ v = ap (λ (x : ℕ). getD (set ws (a * n + b) v) x 0) there ∙ getD-set-same ws (a * n + b) v 0 in-list in
+    simp (p .0, q .0) e)
+    (λ q. simp (p .0, q .0) (apart (λ e. q .1 (cell-column n c d a b hd hb e))))
+    (eqb-tells d b))
     (λ p. simp (p .0) (apart (λ e. p .1 (cell-row n c d a b hd hb e))))
     (eqb-tells c a)

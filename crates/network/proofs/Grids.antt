@@ -54,18 +54,18 @@ module _ (n : ℕ) (ws : List ℕ) (some : 1 ≤ n) (few : n ≤ bottom-stations
       ⊎-elim
       (λ h. ap distance-of (sym (laws .mirror a b ha hb h)))
       (λ h. ⊎-elim
-        (λ k. ap distance-of (laws .mirror b a hb ha k))
-        (λ k. no-distance (at n ws a b) h ∙ sym (no-distance (at n ws b a) k))
-        (short-or-none (at n ws b a)))
+      (λ k. ap distance-of (laws .mirror b a hb ha k))
+      (λ k. no-distance (at n ws a b) h ∙ sym (no-distance (at n ws b a) k))
+      (short-or-none (at n ws b a)))
       (short-or-none (at n ws a b))
 
   mirror : (a b : ℕ) → grid-net n ws .distance a b ≡ grid-net n ws .distance b a
   mirror a b =
       ⊎-elim
       (λ h. ⊎-elim
-        (λ k. inside-in n a b _ h k ∙ figure-mirror a b h k ∙ sym (inside-in n b a _ k h))
-        (λ k. inside-out n a b _ (inr k) ∙ sym (inside-out n b a _ (inl k)))
-        (below-or-not b n))
+      (λ k. inside-in n a b _ h k ∙ figure-mirror a b h k ∙ sym (inside-in n b a _ k h))
+      (λ k. inside-out n a b _ (inr k) ∙ sym (inside-out n b a _ (inl k)))
+      (below-or-not b n))
       (λ h. inside-out n a b _ (inl h) ∙ sym (inside-out n b a _ (inr h)))
       (below-or-not a n)
 
@@ -79,10 +79,13 @@ module _ (n : ℕ) (ws : List ℕ) (some : 1 ≤ n) (few : n ≤ bottom-stations
     mirror = mirror;
     detour = λ a b c j k e f.
         let h = back n ws a b j e in
-        let i = back n ws b c k f in
-        (at n ws a c,
-         (seen n ws a c (h .0) (i .1 .0) (laws .reach a b c (h .0) (h .1 .0) (i .1 .0) (h .1 .1 .1) (i .1 .1 .1)),
-          omega (arith, laws .detour a b c (h .0) (h .1 .0) (i .1 .0) (h .1 .1 .1) (i .1 .1 .1), h .1 .1 .0, i .1 .1 .0)));
+        let i = back n ws b c k f in (
+          at n ws a c,
+          (
+            seen n ws a c (h .0) (i .1 .0) (laws .reach a b c (h .0) (h .1 .0) (i .1 .0) (h .1 .1 .1) (i .1 .1 .1)),
+            omega (arith, laws .detour a b c (h .0) (h .1 .0) (i .1 .0) (h .1 .1 .1) (i .1 .1 .1), h .1 .1 .0, i .1 .1 .0),
+          ),
+        );
   }
 
 -- the laws of the net are those of the figures
@@ -117,9 +120,9 @@ module _ (net : Net) (law : Lawful net) (ws : List ℕ)
   far a b =
       ⊎-elim
       (λ h. ⊎-elim
-        (λ k. inside-in m a b _ h k ∙ ap distance-of (placed a b h k) ∙ read-back (net .distance a b) (law .short a b))
-        (λ k. inside-out m a b _ (inr k) ∙ sym (law .outside a b (inr k)))
-        (below-or-not b m))
+      (λ k. inside-in m a b _ h k ∙ ap distance-of (placed a b h k) ∙ read-back (net .distance a b) (law .short a b))
+      (λ k. inside-out m a b _ (inr k) ∙ sym (law .outside a b (inr k)))
+      (below-or-not b m))
       (λ h. inside-out m a b _ (inl h) ∙ sym (law .outside a b (inl h)))
       (below-or-not a m)
 

@@ -42,13 +42,13 @@ none-laid n ps ws h = record {
   sound = λ a b m ha hb e.
       ⊎-elim
       (λ q.
-        let x : at n ws a b ≡ 0 = simp (q .0) at (h a b ha hb) in
-        let f = distance-some (at n ws a b) m e in
-        (0, (subst (λ (t : ℕ). Route (Joins ps) n a t 0) (q .1) (stay a ha), omega (arith, f .0, x))))
+      let x : at n ws a b ≡ 0 = simp (q .0) at (h a b ha hb) in
+      let f = distance-some (at n ws a b) m e in
+      (0, (subst (λ (t : ℕ). Route (Joins ps) n a t 0) (q .1) (stay a ha), omega (arith, f .0, x))))
       (λ q.
-        let x : at n ws a b ≡ none-figure = simp (q .0) at (h a b ha hb) in
-        let f = distance-some (at n ws a b) m e in
-        absurd (omega (arith, f .1, x)))
+      let x : at n ws a b ≡ none-figure = simp (q .0) at (h a b ha hb) in
+      let f = distance-some (at n ws a b) m e in
+      absurd (omega (arith, f .1, x)))
       (eqb-tells a b);
   edge = λ j a b l hj inn lies. absurd (omega arith);
   itself = λ a ha. h a a ha ha ∙ same-cell a;
@@ -68,16 +68,16 @@ two-writes : (c d f t l u1 u2 x y1 y2 : ℕ)
 two-writes c d f t l u1 u2 x y1 y2 p q r s ne =
     ⊎-elim
     (λ cf. ⊎-elim
-      (λ dt. inl (inl (sym (cf .1), sym (dt .1)), let e = r (sym (cf .1)) (sym (dt .1)) in grind (arith, tells)))
-      (λ dt. inr (⊎-elim (λ h. dt .1 (sym (h .1))) (λ h. ne (sym (cf .1) ∙ sym (h .1))), grind (arith, tells)))
-      (eqb-tells d t))
+    (λ dt. inl (inl (sym (cf .1), sym (dt .1)), let e = r (sym (cf .1)) (sym (dt .1)) in grind (arith, tells)))
+    (λ dt. inr (⊎-elim (λ h. dt .1 (sym (h .1))) (λ h. ne (sym (cf .1) ∙ sym (h .1))), grind (arith, tells)))
+    (eqb-tells d t))
     (λ cf. ⊎-elim
-      (λ ct. ⊎-elim
-        (λ df. inl (inr (sym (df .1), sym (ct .1)), let e = s (sym (df .1)) (sym (ct .1)) in grind (arith, tells)))
-        (λ df. inr (⊎-elim (λ h. cf .1 (sym (h .0))) (λ h. df .1 (sym (h .0))), grind (arith, tells)))
-        (eqb-tells d f))
-      (λ ct. inr (⊎-elim (λ h. cf .1 (sym (h .0))) (λ h. ct .1 (sym (h .1))), grind (arith, tells)))
-      (eqb-tells c t))
+    (λ ct. ⊎-elim
+    (λ df. inl (inr (sym (df .1), sym (ct .1)), let e = s (sym (df .1)) (sym (ct .1)) in grind (arith, tells)))
+    (λ df. inr (⊎-elim (λ h. cf .1 (sym (h .0))) (λ h. df .1 (sym (h .0))), grind (arith, tells)))
+    (eqb-tells d f))
+    (λ ct. inr (⊎-elim (λ h. cf .1 (sym (h .0))) (λ h. ct .1 (sym (h .1))), grind (arith, tells)))
+    (eqb-tells c t))
     (eqb-tells c f)
 
 pub laid-square : (n : ℕ) (p : Pipe) (ws : List ℕ) → Square n ws → Square n (laid n p ws)
@@ -133,8 +133,8 @@ module _ (n : ℕ) (ps : List Pipe) (i : ℕ) (ws : List ℕ) (sq : Square n ws)
         ⊎-elim
         (λ old. within-longest (at n (laid n p ws) a b) k (omega (arith, less a b hb, figure-within (at n ws a b) k (before .edge j a b k old nq lies))) short)
         (λ new.
-          let here : Lies p a b k = subst (λ (x : ℕ). Lies (pipe-at ps x) a b k) new lies in
-          within-longest (at n (laid n p ws) a b) k (omega (arith, hit-less a b hb (here .0), here .1)) short)
+        let here : Lies p a b k = subst (λ (x : ℕ). Lies (pipe-at ps x) a b k) new lies in
+        within-longest (at n (laid n p ws) a b) k (omega (arith, hit-less a b hb (here .0), here .1)) short)
         (split j hj);
     itself = λ a ha.
         ⊎-elim
@@ -203,9 +203,9 @@ module _ (n : ℕ) (ps : List Pipe) (goods : GoodPipes n ps) where
           let ends = joins-ends n ps goods in
           ⊎-elim
           (λ h. ⊎-elim
-            (λ k. subst (LeastOf (Route (Joins ps) n a b)) (sym (inside-in n a b (distance-of (at n ws a b)) h k)) (least a b h k))
-            (λ k. none-least _ _ (λ l r. omega (arith, last-in (Joins ps) n turn ends a b l r)) (inside-out n a b (distance-of (at n ws a b)) (inr k)))
-            (below-or-not b n))
+          (λ k. subst (LeastOf (Route (Joins ps) n a b)) (sym (inside-in n a b (distance-of (at n ws a b)) h k)) (least a b h k))
+          (λ k. none-least _ _ (λ l r. omega (arith, last-in (Joins ps) n turn ends a b l r)) (inside-out n a b (distance-of (at n ws a b)) (inr k)))
+          (below-or-not b n))
           (λ h. none-least _ _ (λ l r. omega (arith, first-in (Joins ps) n turn ends a b l r)) (inside-out n a b (distance-of (at n ws a b)) (inl h)))
           (below-or-not a n);
     }

@@ -38,9 +38,9 @@ module _ (n : Net) (law : Lawful n) (p q len : ℕ) where
   raw-some a b k e =
       ⊎-elim straight
       (λ f. ⊎-elim
-        (λ g. let h = via-some p q a b k g in forth (h .0) (h .1 .0) (h .1 .1 .0) (h .1 .1 .1 .0) (h .1 .1 .1 .1))
-        (λ g. let h = via-some q p a b k g in back (h .0) (h .1 .0) (h .1 .1 .0) (h .1 .1 .1 .0) (h .1 .1 .1 .1))
-        (least-some _ _ k f))
+      (λ g. let h = via-some p q a b k g in forth (h .0) (h .1 .0) (h .1 .1 .0) (h .1 .1 .1 .0) (h .1 .1 .1 .1))
+      (λ g. let h = via-some q p a b k g in back (h .0) (h .1 .0) (h .1 .1 .0) (h .1 .1 .1 .0) (h .1 .1 .1 .1))
+      (least-some _ _ k f))
       (least-some _ _ k e)
 
   via-in : (s t a b i j k : ℕ) → Within (n .distance a s) i → Within (n .distance t b) j → (i + len) + j ≤ k → Within (via n s t len a b) k
@@ -138,5 +138,5 @@ capped-parts d x y z w l h =
     sym (cap-each d (least (plus (plus x l) y) (plus (plus z l) w))
     ∙ ap (λ (o : Option ℕ). least o (capped (least (plus (plus x l) y) (plus (plus z l) w)))) (short-capped d h)
     ∙ ap (least d) (cap-each (plus (plus x l) y) (plus (plus z l) w)
-      ∙ ap (λ (o : Option ℕ). least o (capped (plus (plus z l) w))) (sym (cap-early (plus x l) y))
-      ∙ ap (least (capped (plus (capped (plus x l)) y))) (sym (cap-early (plus z l) w))))
+    ∙ ap (λ (o : Option ℕ). least o (capped (plus (plus z l) w))) (sym (cap-early (plus x l) y))
+    ∙ ap (least (capped (plus (capped (plus x l)) y))) (sym (cap-early (plus z l) w))))

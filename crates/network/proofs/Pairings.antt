@@ -74,41 +74,41 @@ module _ (s t : Net) (sl : Lawful s) (tl : Lawful t) (x y : ℕ) where
   detour a b c j k e f =
       four m a c
       (λ ha hc. ⊎-elim
-        (λ hb. onto _ _ (j + k) (at-ss a c ha hc) (sl .detour a b c j k (sym (at-ss a b ha hb) ∙ e) (sym (at-ss b c hb hc) ∙ f)))
-        (λ hb.
-          let v = parts a (b - m) j (sym (at-st a b ha hb) ∙ e) in
-          let w = parts c (b - m) k (sym (at-ts b c hb hc) ∙ f) in
-          let d = sl .detour a x c (v .0) (w .0) (v .1 .1 .0) (sl .mirror x c ∙ w .1 .1 .0) in
-          onto _ _ (j + k) (at-ss a c ha hc) (shorter (s .distance a c) (v .0 + w .0) (j + k) (sl .short a c) d (omega (arith, v .1 .1 .1 .1, w .1 .1 .1 .1))))
-        (below-or-not b m))
+      (λ hb. onto _ _ (j + k) (at-ss a c ha hc) (sl .detour a b c j k (sym (at-ss a b ha hb) ∙ e) (sym (at-ss b c hb hc) ∙ f)))
+      (λ hb.
+      let v = parts a (b - m) j (sym (at-st a b ha hb) ∙ e) in
+      let w = parts c (b - m) k (sym (at-ts b c hb hc) ∙ f) in
+      let d = sl .detour a x c (v .0) (w .0) (v .1 .1 .0) (sl .mirror x c ∙ w .1 .1 .0) in
+      onto _ _ (j + k) (at-ss a c ha hc) (shorter (s .distance a c) (v .0 + w .0) (j + k) (sl .short a c) d (omega (arith, v .1 .1 .1 .1, w .1 .1 .1 .1))))
+      (below-or-not b m))
       (λ ha hc. ⊎-elim
-        (λ hb.
-          let w = parts b (c - m) k (sym (at-st b c hb hc) ∙ f) in
-          let d = sl .detour a b x j (w .0) (sym (at-ss a b ha hb) ∙ e) (w .1 .1 .0) in
-          onto _ _ (j + k) (at-st a c ha hc) (cross a (c - m) (j + w .0) (w .1 .0) (j + k) d (exact _ (w .1 .0) (w .1 .1 .1 .0)) (omega (arith, w .1 .1 .1 .1))))
-        (λ hb.
-          let v = parts a (b - m) j (sym (at-st a b ha hb) ∙ e) in
-          let d = tl .detour y (b - m) (c - m) (v .1 .0) k (v .1 .1 .1 .0) (sym (at-tt b c hb hc) ∙ f) in
-          onto _ _ (j + k) (at-st a c ha hc) (cross a (c - m) (v .0) (v .1 .0 + k) (j + k) (exact _ (v .0) (v .1 .1 .0)) d (omega (arith, v .1 .1 .1 .1))))
-        (below-or-not b m))
+      (λ hb.
+      let w = parts b (c - m) k (sym (at-st b c hb hc) ∙ f) in
+      let d = sl .detour a b x j (w .0) (sym (at-ss a b ha hb) ∙ e) (w .1 .1 .0) in
+      onto _ _ (j + k) (at-st a c ha hc) (cross a (c - m) (j + w .0) (w .1 .0) (j + k) d (exact _ (w .1 .0) (w .1 .1 .1 .0)) (omega (arith, w .1 .1 .1 .1))))
+      (λ hb.
+      let v = parts a (b - m) j (sym (at-st a b ha hb) ∙ e) in
+      let d = tl .detour y (b - m) (c - m) (v .1 .0) k (v .1 .1 .1 .0) (sym (at-tt b c hb hc) ∙ f) in
+      onto _ _ (j + k) (at-st a c ha hc) (cross a (c - m) (v .0) (v .1 .0 + k) (j + k) (exact _ (v .0) (v .1 .1 .0)) d (omega (arith, v .1 .1 .1 .1))))
+      (below-or-not b m))
       (λ ha hc. ⊎-elim
-        (λ hb.
-          let v = parts b (a - m) j (sym (at-ts a b ha hb) ∙ e) in
-          let d = sl .detour c b x k (v .0) (sl .mirror c b ∙ sym (at-ss b c hb hc) ∙ f) (v .1 .1 .0) in
-          onto _ _ (j + k) (at-ts a c ha hc) (cross c (a - m) (k + v .0) (v .1 .0) (j + k) d (exact _ (v .1 .0) (v .1 .1 .1 .0)) (omega (arith, v .1 .1 .1 .1))))
-        (λ hb.
-          let w = parts c (b - m) k (sym (at-ts b c hb hc) ∙ f) in
-          let d = tl .detour y (b - m) (a - m) (w .1 .0) j (w .1 .1 .1 .0) (tl .mirror (b - m) (a - m) ∙ sym (at-tt a b ha hb) ∙ e) in
-          onto _ _ (j + k) (at-ts a c ha hc) (cross c (a - m) (w .0) (w .1 .0 + j) (j + k) (exact _ (w .0) (w .1 .1 .0)) d (omega (arith, w .1 .1 .1 .1))))
-        (below-or-not b m))
+      (λ hb.
+      let v = parts b (a - m) j (sym (at-ts a b ha hb) ∙ e) in
+      let d = sl .detour c b x k (v .0) (sl .mirror c b ∙ sym (at-ss b c hb hc) ∙ f) (v .1 .1 .0) in
+      onto _ _ (j + k) (at-ts a c ha hc) (cross c (a - m) (k + v .0) (v .1 .0) (j + k) d (exact _ (v .1 .0) (v .1 .1 .1 .0)) (omega (arith, v .1 .1 .1 .1))))
+      (λ hb.
+      let w = parts c (b - m) k (sym (at-ts b c hb hc) ∙ f) in
+      let d = tl .detour y (b - m) (a - m) (w .1 .0) j (w .1 .1 .1 .0) (tl .mirror (b - m) (a - m) ∙ sym (at-tt a b ha hb) ∙ e) in
+      onto _ _ (j + k) (at-ts a c ha hc) (cross c (a - m) (w .0) (w .1 .0 + j) (j + k) (exact _ (w .0) (w .1 .1 .0)) d (omega (arith, w .1 .1 .1 .1))))
+      (below-or-not b m))
       (λ ha hc. ⊎-elim
-        (λ hb.
-          let v = parts b (a - m) j (sym (at-ts a b ha hb) ∙ e) in
-          let w = parts b (c - m) k (sym (at-st b c hb hc) ∙ f) in
-          let d = tl .detour (a - m) y (c - m) (v .1 .0) (w .1 .0) (tl .mirror (a - m) y ∙ v .1 .1 .1 .0) (w .1 .1 .1 .0) in
-          onto _ _ (j + k) (at-tt a c ha hc) (shorter (t .distance (a - m) (c - m)) (v .1 .0 + w .1 .0) (j + k) (tl .short (a - m) (c - m)) d (omega (arith, v .1 .1 .1 .1, w .1 .1 .1 .1))))
-        (λ hb. onto _ _ (j + k) (at-tt a c ha hc) (tl .detour (a - m) (b - m) (c - m) j k (sym (at-tt a b ha hb) ∙ e) (sym (at-tt b c hb hc) ∙ f)))
-        (below-or-not b m))
+      (λ hb.
+      let v = parts b (a - m) j (sym (at-ts a b ha hb) ∙ e) in
+      let w = parts b (c - m) k (sym (at-st b c hb hc) ∙ f) in
+      let d = tl .detour (a - m) y (c - m) (v .1 .0) (w .1 .0) (tl .mirror (a - m) y ∙ v .1 .1 .1 .0) (w .1 .1 .1 .0) in
+      onto _ _ (j + k) (at-tt a c ha hc) (shorter (t .distance (a - m) (c - m)) (v .1 .0 + w .1 .0) (j + k) (tl .short (a - m) (c - m)) d (omega (arith, v .1 .1 .1 .1, w .1 .1 .1 .1))))
+      (λ hb. onto _ _ (j + k) (at-tt a c ha hc) (tl .detour (a - m) (b - m) (c - m) j k (sym (at-tt a b ha hb) ∙ e) (sym (at-tt b c hb hc) ∙ f)))
+      (below-or-not b m))
 
   outside-right : (a b : ℕ) → m + t .stations ≤ b → far a b ≡ None
   outside-right a b h =
@@ -154,8 +154,8 @@ module _ (s t : Net) (sl : Lawful s) (tl : Lawful t) (x y : ℕ) where
   cut-outside a b h =
       four most-stations a b
       (λ i j.
-        let over : (m + t .stations ≤ a) ⊎ (m + t .stations ≤ b) = ⊎-elim (λ p. inl (omega arith)) (λ p. inr (omega arith)) h in
-        cut-is a b i j ∙ outside a b over)
+      let over : (m + t .stations ≤ a) ⊎ (m + t .stations ≤ b) = ⊎-elim (λ p. inl (omega arith)) (λ p. inr (omega arith)) h in
+      cut-is a b i j ∙ outside a b over)
       (λ i j. cut-off a b (inr j))
       (λ i j. cut-off a b (inl i))
       (λ i j. cut-off a b (inl i))

@@ -76,9 +76,9 @@ module _ (n : ℕ) (ws : List ℕ) (k : ℕ) (hk : k < n) (itself : at n ws k k 
   rows-more vs us a ha inv row c d hc hd =
       let y : at n vs k d ≡ at n ws k d = either-way k a (at n vs k d) (through n ws k k d) (at n ws k d) (row-kept d) (inv k d hk hd) in
       let f : c ≡ a → through n vs k c d ≡ through n ws k c d = λ p.
-          let x : at n vs c k ≡ at n ws c k = not-before c a (at n vs c k) (through n ws k c k) (at n ws c k) (omega arith) (inv c k hc hk) in
-          let z : at n vs c d ≡ at n ws c d = not-before c a (at n vs c d) (through n ws k c d) (at n ws c d) (omega arith) (inv c d hc hd) in
-          simp (x, y, z) in
+      let x : at n vs c k ≡ at n ws c k = not-before c a (at n vs c k) (through n ws k c k) (at n ws c k) (omega arith) (inv c k hc hk) in
+      let z : at n vs c d ≡ at n ws c d = not-before c a (at n vs c d) (through n ws k c d) (at n ws c d) (omega arith) (inv c d hc hd) in
+      simp (x, y, z) in
       merge-rows c a (at n us c d) (through n vs k c d) (at n vs c d) (through n ws k c d) (at n ws c d) (row c d hc hd) (inv c d hc hd) f
 
   -- cell k, k stays 0

@@ -38,7 +38,7 @@ pub one-shortest : (J : ℕ → ℕ → ℕ → Type 0) (n : ℕ) → OneShortes
 one-shortest J n s t hs ht =
     let count : s .stations ≡ t .stations = hs .count ∙ sym (ht .count) in
     let far : (a b : ℕ) → s .distance a b ≡ t .distance a b =
-          λ a b. same-least (Route J n a b) (Route J n a b) (s .distance a b) (t .distance a b) (λ k r. r) (λ k r. r) (hs .least a b) (ht .least a b) in
+    λ a b. same-least (Route J n a b) (Route J n a b) (s .distance a b) (t .distance a b) (λ k r. r) (λ k r. r) (hs .least a b) (ht .least a b) in
     λ i. record { stations = count i; distance = λ a b. far a b i }
 
 module _ (J : ℕ → ℕ → ℕ → Type 0) (n : ℕ)

@@ -56,9 +56,9 @@ module _ (J : ℕ → ℕ → ℕ → Type 0) (n : ℕ)
     from a b i e =
         ⊎-elim old
         (λ f.
-          let h = capped-some (plus (w a k) (w k b)) i f in
-          let p = plus-some (w a k) (w k b) (h .0) (h .1 .0) in
-          by (p .0) (p .1 .0) (p .1 .1 .0) (p .1 .1 .1 .0) (omega (arith, p .1 .1 .1 .1, h .1 .1)))
+        let h = capped-some (plus (w a k) (w k b)) i f in
+        let p = plus-some (w a k) (w k b) (h .0) (h .1 .0) in
+        by (p .0) (p .1 .0) (p .1 .1 .0) (p .1 .1 .1 .0) (omega (arith, p .1 .1 .1 .1, h .1 .1)))
         (least-some (w a b) (capped (plus (w a k) (w k b))) i e)
 
     kept : (a b i j : ℕ) → Within (w a b) i → i ≤ j → Within (relaxed w k a b) j

@@ -42,10 +42,12 @@ limited carried f =
     record {
       within = omega (arith, le);
       full =
-        λ ne.
+          λ ne.
           elim (held-full (limit-of base) due) [
-            inl h ↦ omega (arith, h)
-          | inr h ↦ absurd (ne (omega (arith, ints, h))) ] }
+            | inl h ↦ omega (arith, h)
+            | inr h ↦ absurd (ne (omega (arith, ints, h)))
+          ];
+    }
 
 pub balance : (closings : List Closing) (carried : ℤ) → Accepted closings carried → Balanced closings carried
 balance closings carried none = record { adds = refl; limits = tt }
@@ -54,7 +56,8 @@ balance closings carried (next {before} {carried = was} {f} a n) =
     let c = closing-of was f in
     record {
       adds = omega (arith, ints, b .adds, corrections-push before c, amounts-push before c);
-      limits = all-push Limited before c (b .limits) (limited was f) }
+      limits = all-push Limited before c (b .limits) (limited was f);
+    }
 
 -- a closing that the rules let pass goes on from those before it
 pub continues : (carried : ℤ) (f : Figures) (r : Result Closing BookFault) → Ruled book-refusal (close-rules carried f) (closing-of carried f) r → Continues carried r

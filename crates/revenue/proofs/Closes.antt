@@ -52,7 +52,7 @@ pub closed : (carried : ℤ) (f : Figures) (base : ℕ) (correction due : ℤ) (
 closed carried f base correction due r good enough b k d v =
     let d′ : due ≡ due-of carried f = d ∙ ap (λ x. carried +ℤ x) k in
     let v′ : Ruled book-refusal (settling-rules (base-of f) (due-of carried f)) (settled (base-of f) (correction-of f) (due-of carried f)) r =
-        subst (λ x. Ruled book-refusal (settling-rules x (due-of carried f)) (settled x (correction-of f) (due-of carried f)) r) b
-        (subst (λ x. Ruled book-refusal (settling-rules base (due-of carried f)) (settled base x (due-of carried f)) r) k
-        (subst (λ x. Ruled book-refusal (settling-rules base x) (settled base correction x) r) d′ v)) in
+    subst (λ x. Ruled book-refusal (settling-rules x (due-of carried f)) (settled x (correction-of f) (due-of carried f)) r) b
+    (subst (λ x. Ruled book-refusal (settling-rules base (due-of carried f)) (settled base x (due-of carried f)) r) k
+    (subst (λ x. Ruled book-refusal (settling-rules base x) (settled base correction x) r) d′ v)) in
     (closed-on carried f r good enough v′, settled-within base correction due r v)

@@ -2,7 +2,6 @@
 pub mod carried;
 pub mod figures;
 pub mod period;
-pub mod units;
-
 #[cfg(test)]
 mod tests;
+pub mod units;

@@ -25,14 +25,23 @@ use terms::measures::Dinars;
 use terms::rounding::to_nearest;
 use terms::rounding::to_nearest_signed;
 
+// The largest sum of money among the figures, but for the assets, in thousands of dinars.
 const MOST_MONEY: u64 = 10_000_000;
+// The largest regulated assets.
 const MOST_ASSETS: u64 = 100_000_000;
+// 30 %, in hundredths of a percent.
 const MOST_RATE: u64 = 3_000;
+// The most gas that is delivered in a period, in MWh.
 const MOST_DELIVERED: u64 = 50_000_000;
+// A tenth, in hundred-thousandths: so what the loss is divided by is never 0.
 const MOST_LOSS: u64 = 10_000;
+// 100 RSD per kWh, in paras.
 const MOST_PRICE: u64 = 10_000;
+// -20 %, in hundredths of a percent.
 const LEAST_INDEX: i64 = -2_000;
+// 100 %.
 const MOST_INDEX: i64 = 10_000;
+// The largest allowed revenue, in thousands of dinars.
 const MOST_ALLOWED: u64 = 10_000_000;
 
 // The first figure that is out of its range.
@@ -101,7 +110,11 @@ fn base(f: Figures) -> Option<u64>
     let loss_cost = scaled(loss_gas, f.price.0, 100);
     let costs = f.operating.0 + f.depreciation.0 + assets_return + loss_cost;
     let revenues = f.nonstandard.0 + f.other.0;
-    if costs < revenues { None } else { Some(costs - revenues) }
+    if costs < revenues {
+        None
+    } else {
+        Some(costs - revenues)
+    }
 }
 
 fn difference(justified: u64, realised: u64) -> i64

@@ -1,8 +1,8 @@
 use crate::carried::Carried;
 use crate::figures::Closing;
-use crate::figures::Figures;
 use crate::figures::ClosingDebug;
 use crate::figures::ClosingPartialEq;
+use crate::figures::Figures;
 use crate::period::close;
 use crate::units::HundredThousandths;
 use crate::units::HundredthsOfPercent;
@@ -77,7 +77,11 @@ fn accepted(figures: Figures, amount: i64) -> Result<Closing, Fail> {
 }
 
 fn told(number: u32, place: usize) -> Refusal {
-    Refusal { number, part: Part::Book, place }
+    Refusal {
+        number,
+        part: Part::Book,
+        place,
+    }
 }
 
 #[test]
@@ -110,8 +114,14 @@ fn a_correction_over_the_limit_is_carried_on() -> Result<(), Fail> {
 
 #[test]
 fn a_negative_half_goes_away_from_zero() -> Result<(), Fail> {
-    check_eq(accepted(worked(9_999, 10_000, 5_000), 0)?.correction, Dinars(-2))?;
-    check_eq(accepted(worked(10_000, 9_999, 5_000), 0)?.correction, Dinars(2))
+    check_eq(
+        accepted(worked(9_999, 10_000, 5_000), 0)?.correction,
+        Dinars(-2),
+    )?;
+    check_eq(
+        accepted(worked(10_000, 9_999, 5_000), 0)?.correction,
+        Dinars(2),
+    )
 }
 
 #[test]

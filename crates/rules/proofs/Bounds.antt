@@ -31,21 +31,23 @@ opened :
 opened s qs q none room h =
     subst (Holds s) (sym (on-side-append s qs (q ∷ [])))
     (cond-both (same-side s (q .side)) (q ∷ []) [] (λ more. Holds s (on-side s qs ++ more))
-     (λ c. let r = room c in (omega (arith, length-push (on-side s qs) q), omega (arith, lots-push (on-side s qs) q)))
-     (λ c. subst (Holds s) (sym (append-nil (on-side s qs))) h))
+    (λ c. let r = room c in (omega (arith, length-push (on-side s qs) q), omega (arith, lots-push (on-side s qs) q)))
+    (λ c. subst (Holds s) (sym (append-nil (on-side s qs))) h))
 
 replanned :
     (s : Side) (qs : List Point) (n lots : ℕ) → (length qs ≤ n → ⊥) → (Overplanned qs n lots → ⊥) →
     Holds s (on-side s qs) → Holds s (on-side s (planned 0 n lots qs))
 replanned s qs n lots known under h =
-    let f = nth-there qs n (omega arith) in
-    (omega (arith, planned-length n lots 0 s qs),
-     elim (cases-bool (same-side s (f .0 .side))) [
-       inl c ↦
-         let o : most-lots < lots-of (on-side s (planned 0 n lots qs)) → ⊥ =
-             λ v. under (f .0, f .1, subst (λ t. most-lots < lots-of (on-side t (planned 0 n lots qs))) (sym (side-is s (f .0 .side) c)) v) in
-         omega arith
-     | inr c ↦ subst (λ own. lots-of own ≤ most-lots) (sym (planned-other n lots 0 s qs n (f .0) (omega arith) (f .1) c)) (h .1) ])
+    let f = nth-there qs n (omega arith) in (
+      omega (arith, planned-length n lots 0 s qs),
+      elim (cases-bool (same-side s (f .0 .side))) [
+        | inl c ↦
+            let o : most-lots < lots-of (on-side s (planned 0 n lots qs)) → ⊥ =
+            λ v. under (f .0, f .1, subst (λ t. most-lots < lots-of (on-side t (planned 0 n lots qs))) (sym (side-is s (f .0 .side) c)) v) in
+            omega arith
+        | inr c ↦ subst (λ own. lots-of own ≤ most-lots) (sym (planned-other n lots 0 s qs n (f .0) (omega arith) (f .1) c)) (h .1)
+      ],
+    )
 
 relieved : (s t : Side) (parts old : ℕ) → (whole-relief < parts → ⊥) → old ≤ whole-relief → cond (same-side s t) parts old ≤ whole-relief
 relieved s t parts old few l = cond-both (same-side s t) parts old (λ r. r ≤ whole-relief) (λ _. omega arith) (λ _. l)
@@ -53,7 +55,7 @@ relieved s t parts old few l = cond-both (same-side s t) parts old (λ r. r ≤ 
 keeps : (net : Net) (p : Plain) (c : Call) → NoneBroken (checks net p c) → ((s : Side) → Bounded p s) → (s : Side) → Bounded (after p c) s
 keeps net p (Open u k at) g h s =
     let room : same-side s u ≡ true → most-points s ≤ length (on-side s (p .points)) → ⊥ =
-        λ c. subst (λ t. most-points t ≤ length (on-side t (p .points)) → ⊥) (side-is s u c) (g .1 .0) in
+    λ c. subst (λ t. most-points t ≤ length (on-side t (p .points)) → ⊥) (side-is s u c) (g .1 .0) in
     let o = opened s (p .points) (new-point u k at) refl room (h s .points, h s .lots) in
     record { points = o .0; lots = o .1; relief = h s .relief }
 keeps net p (Plan n lots) g h s =

@@ -56,12 +56,13 @@ module _ (net : Net) (p : Plain) (fits : Fitting (p .points)) (bounds : (s : Sid
       let both = drawn.promised (drawing net p) (figures-of (drawing net p)) (omega arith) (sides e x Entry) (sides e x Exit) in
       let got = both .collects (weighed net p Entry) (weighed net p Exit) in
       let lots : tariffs.planned (side-lots (p .points) Entry) + tariffs.planned (side-lots (p .points) Exit) ≡ lots-of (p .points) =
-          omega (arith, planned-is net p fits Entry, planned-is net p fits Exit, sides-lots (p .points)) in
+      omega (arith, planned-is net p fits Entry, planned-is net p fits Exit, sides-lots (p .points)) in
       record {
         whole = both .whole;
         revenue = subst (λ n. Collects (p .allowed) n (collected (figures-of (drawing net p)) p)) lots got;
         near = λ s. sides e x s .near;
-        methodical = λ s. sides e x s .methodical }
+        methodical = λ s. sides e x s .methodical;
+      }
 
   -- a draw that is handled as told is drawable, since it is handled in one way
   drawable-by : (o : Outcome) → Draws net p o → Handles net p Draw o p → Drawable net p
@@ -70,8 +71,10 @@ module _ (net : Net) (p : Plain) (fits : Fitting (p .points)) (bounds : (s : Sid
   pub drawable : Drawable net p
   drawable =
       elim (cases-lt 0 (others (basis-of net p Entry))) [
-        inl e ↦
-          elim (cases-lt 0 (others (basis-of net p Exit))) [
-            inl x ↦ drawable-by _ (given e x (drafted e x)) (accepted ((λ z. omega arith), ((λ z. omega arith), tt)))
-          | inr n ↦ drawable-by _ (no-exit-shares e (λ z. omega arith)) (refused (inr ((λ z. omega arith), inl (omega arith, refl)))) ]
-      | inr n ↦ drawable-by _ (no-entry-shares (λ z. omega arith)) (refused (inl (omega arith, refl))) ]
+        | inl e ↦
+            elim (cases-lt 0 (others (basis-of net p Exit))) [
+              | inl x ↦ drawable-by _ (given e x (drafted e x)) (accepted ((λ z. omega arith), ((λ z. omega arith), tt)))
+              | inr n ↦ drawable-by _ (no-exit-shares e (λ z. omega arith)) (refused (inr ((λ z. omega arith), inl (omega arith, refl))))
+            ]
+        | inr n ↦ drawable-by _ (no-entry-shares (λ z. omega arith)) (refused (inl (omega arith, refl)))
+      ]

@@ -32,10 +32,11 @@ Fitting qs = (q : Point) → List·Memᴰ q qs → of-side (q .side) (q .kind) �
 keeps : (net : Net) (p : Plain) (c : Call) → NoneBroken (checks net p c) → Fitting (p .points) → Fitting (after p c .points)
 keeps net p (Open s k at) g h q m =
     elim (mem-push q (p .points) (new-point s k at) m) [
-      inl l ↦ h q l
-    | inr e ↦
-        let fits : of-side s k ≡ true = elim (cases-bool (of-side s k)) [ inl t ↦ t | inr f ↦ absurd (g .0 f) ] in
-        ap (λ (z : Point). of-side (z .side) (z .kind)) e ∙ fits ]
+      | inl l ↦ h q l
+      | inr e ↦
+          let fits : of-side s k ≡ true = elim (cases-bool (of-side s k)) [ inl t ↦ t | inr f ↦ absurd (g .0 f) ] in
+          ap (λ (z : Point). of-side (z .side) (z .kind)) e ∙ fits
+    ]
 keeps net p (Plan n lots) g h q m =
     let s = mem-planned 0 n (lots .0) (p .points) q m in
     ap (λ t. of-side t (q .kind)) (s .side) ∙ ap (of-side (s .point .side)) (s .kind) ∙ h (s .point) (s .there)

@@ -124,5 +124,6 @@ pub led-take : (net : Net) (h : History) (p : Plain) → Led net h p → (k : �
 led-take net h p started k = (p, subst (λ l. Led net l p) (sym (take-none k)) started)
 led-take net h p (handled {h = h₀} {p = p₀} {c} {o} led step) k =
     elim (cases-lt (length h₀) k) [
-      inl l ↦ (p, subst (λ x. Led net x p) (sym (take-all k (h₀ ++ ((c, o) ∷ [])) (omega (arith, length-push h₀ (c, o))))) (handled led step))
-    | inr l ↦ let s = led-take net h₀ p₀ led k in (s .0, subst (λ x. Led net x (s .0)) (sym (take-append-le k h₀ ((c, o) ∷ []) l)) (s .1)) ]
+      | inl l ↦ (p, subst (λ x. Led net x p) (sym (take-all k (h₀ ++ ((c, o) ∷ [])) (omega (arith, length-push h₀ (c, o))))) (handled led step))
+      | inr l ↦ let s = led-take net h₀ p₀ led k in (s .0, subst (λ x. Led net x (s .0)) (sym (take-append-le k h₀ ((c, o) ∷ []) l)) (s .1))
+    ]

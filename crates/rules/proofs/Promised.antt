@@ -49,7 +49,8 @@ promised net lawful h p led =
       level = level net lawful p fits;
       draft = drawable net p fits bounds;
       closed = accepted-all;
-      balanced = balance (p .closings) (p .carried) accepted-all }
+      balanced = balance (p .closings) (p .carried) accepted-all;
+    }
 
 pub known : (net : Net) → Lawful net → (h : History) (p : Plain) → Led net h p → Known net h
 known net lawful h p led = record { book = p; led = led; promised = promised net lawful h p led }

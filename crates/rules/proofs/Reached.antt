@@ -91,11 +91,11 @@ pub light :
 light net p fits all bounds s =
     let others = on-side (opposite s) (p .points) in
     let few : (q : Point) → List·Memᴰ q (on-side s (p .points)) → reach net (q .station) others ≤ most-lots * farthest =
-        λ q m.
-        let a = mem-side s (p .points) q m in
-        let near : (x : Point) → List·Memᴰ x others → Near net (q .station) (x .station) =
-            λ x k. let b = mem-side (opposite s) (p .points) x k in all q x (a .0) (b .0) (b .1 ∙ ap opposite (sym (a .1))) in
-        let r = reach-below net (q .station) others near in
-        omega (arith, r, bounds (opposite s) .lots) in
+    λ q m.
+    let a = mem-side s (p .points) q m in
+    let near : (x : Point) → List·Memᴰ x others → Near net (q .station) (x .station) =
+    λ x k. let b = mem-side (opposite s) (p .points) x k in all q x (a .0) (b .0) (b .1 ∙ ap opposite (sym (a .1))) in
+    let r = reach-below net (q .station) others near in
+    omega (arith, r, bounds (opposite s) .lots) in
     let k = sum-below (λ q. reach net (q .station) others) (most-lots * farthest) (on-side s (p .points)) few in
     omega (arith, weight-is net p fits s, k, bounds s .lots)

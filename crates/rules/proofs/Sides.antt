@@ -41,8 +41,9 @@ pub mem-push : {X : Type 0} (q : X) (xs : List X) (x : X) → List·Memᴰ q (xs
 mem-push q [] x m = elim (List·Memᴰ·cases-cons m) [ inl e ↦ inr e | inr k ↦ inl k ]
 mem-push q (y ∷ xs) x m =
     elim (List·Memᴰ·cases-cons m) [
-      inl e ↦ inl (List·Memᴰ·head e)
-    | inr k ↦ elim (mem-push q xs x k) [ inl l ↦ inl (List·Memᴰ·tail l) | inr e ↦ inr e ] ]
+      | inl e ↦ inl (List·Memᴰ·head e)
+      | inr k ↦ elim (mem-push q xs x k) [ inl l ↦ inl (List·Memᴰ·tail l) | inr e ↦ inr e ]
+    ]
 
 -- ---- other lots at one point
 
@@ -114,8 +115,9 @@ pub mem-planned : (b n lots : ℕ) (qs : List Point) (q : Point) → List·Mem�
 mem-planned b n lots [] q m = absurd (List·Memᴰ·not-nil m)
 mem-planned b n lots (y ∷ qs) q m =
     elim (List·Memᴰ·cases-cons m) [
-      inl e ↦ subst (λ z. Stood z (y ∷ qs)) (sym e) (stood-first (eqb b n) lots y qs)
-    | inr k ↦ stood-later q y qs (mem-planned (suc b) n lots qs q k) ]
+      | inl e ↦ subst (λ z. Stood z (y ∷ qs)) (sym e) (stood-first (eqb b n) lots y qs)
+      | inr k ↦ stood-later q y qs (mem-planned (suc b) n lots qs q k)
+    ]
 
 -- ---- the points of a side, and those of both
 
@@ -124,9 +126,10 @@ mem-side s [] q m = absurd (List·Memᴰ·not-nil m)
 mem-side s (y ∷ qs) q m =
     cond-both (same-side s (y .side)) (y ∷ on-side s qs) (on-side s qs) (λ l. List·Memᴰ q l → List·Memᴰ q (y ∷ qs) × (q .side ≡ s))
     (λ c k.
-       elim (List·Memᴰ·cases-cons k) [
-         inl e ↦ (List·Memᴰ·head e, ap (λ (z : Point). z .side) e ∙ side-is s (y .side) c)
-       | inr l ↦ let r = mem-side s qs q l in (List·Memᴰ·tail (r .0), r .1) ])
+    elim (List·Memᴰ·cases-cons k) [
+      | inl e ↦ (List·Memᴰ·head e, ap (λ (z : Point). z .side) e ∙ side-is s (y .side) c)
+      | inr l ↦ let r = mem-side s qs q l in (List·Memᴰ·tail (r .0), r .1)
+    ])
     (λ c k. let r = mem-side s qs q k in (List·Memᴰ·tail (r .0), r .1))
     m
 

@@ -60,6 +60,7 @@ decide-index x = by (ltZ x least-index) (ltZ most-index x) refl refl
     neither : ltZ x least-index ≡ false → ltZ most-index x ≡ false → (x <ℤ least-index) ⊎ (most-index <ℤ x) → ⊥
     neither a b (inl h) = grind (arith, ints)
     neither a b (inr h) = grind (arith, ints)
+
     by : (t u : Bool) → ltZ x least-index ≡ t → ltZ most-index x ≡ u → Decided ((x <ℤ least-index) ⊎ (most-index <ℤ x))
     by true u a b = inl (inl (grind (arith, ints)))
     by false true a b = inl (inr (grind (arith, ints)))
@@ -71,8 +72,9 @@ module _ (s : Side) (P : ℕ → Type 0) (decide : (n : ℕ) → Decided (P n)) 
       (q : Point) (qs : List Point) → (q .side ≡ opposite s → P (q .station) → ⊥) → (Opposite qs s P → ⊥) → Opposite (q ∷ qs) s P → ⊥
   none-more q qs here rest u =
       elim (List·Memᴰ·cases-cons (u .1)) [
-        inl e ↦ here (ap (λ (z : Point). z .side) (sym e) ∙ u .2) (subst (λ (z : Point). P (z .station)) e (u .3))
-      | inr m ↦ rest (u .0, m, u .2, u .3) ]
+        | inl e ↦ here (ap (λ (z : Point). z .side) (sym e) ∙ u .2) (subst (λ (z : Point). P (z .station)) e (u .3))
+        | inr m ↦ rest (u .0, m, u .2, u .3)
+      ]
 
   decide-opposite : (qs : List Point) → Decided (Opposite qs s P)
   decide-opposite [] = inr (λ u. List·Memᴰ·not-nil (u .1))
@@ -89,14 +91,17 @@ decide-overplanned points n lots = by (nth points n) refl
   where
     same : (q x : Point) → nth points n ≡ Some q → nth points n ≡ Some x → x ≡ q
     same q x a b = cc
+
     unlike : (x : Point) → nth points n ≡ None → nth points n ≡ Some x → ⊥
     unlike x a b = let z : _≡_ {A = ℕ} 0 1 = cc in omega arith
+
     by : (o : Option Point) → nth points n ≡ o → Decided (Overplanned points n lots)
     by None e = inr (λ v. unlike (v .0) e (v .1))
     by (Some q) e =
         elim (decide-lt most-lots (lots-of (on-side (q .side) (planned 0 n lots points)))) [
-          inl h ↦ inl (q, e, h)
-        | inr h ↦ inr (λ v. h (subst (λ (z : Point). most-lots < lots-of (on-side (z .side) (planned 0 n lots points))) (same q (v .0) e (v .1)) (v .2))) ]
+          | inl h ↦ inl (q, e, h)
+          | inr h ↦ inr (λ v. h (subst (λ (z : Point). most-lots < lots-of (on-side (z .side) (planned 0 n lots points))) (same q (v .0) e (v .1)) (v .2)))
+        ]
 
 -- rules that can be told, each with its fault
 data Told : List Rule → Type 1 where
@@ -145,5 +150,6 @@ told net p Draw = next NoEntryShares (cases-eq _ _) (next NoExitShares (cases-eq
 pub total : Total
 total net p c =
     elim (verdict (checks net p c) (told net p c)) [
-      inl v ↦ (Err (v .0), p, refused (v .1))
-    | inr n ↦ (Ok (answered net p c), after p c, accepted n) ]
+      | inl v ↦ (Err (v .0), p, refused (v .1))
+      | inr n ↦ (Ok (answered net p c), after p c, accepted n)
+    ]

@@ -41,7 +41,7 @@ abbrev pub Averaged : Net → List Point → Type 0
 Averaged net points =
     (q : Point) → 0 < lots-of (on-side (opposite (q .side)) points)
     → Same (whole (point-weight net points q))
-        (times (whole (q .lots * lots-of (on-side (opposite (q .side)) points))) (average-distance net (q .station) (on-side (opposite (q .side)) points)))
+    (times (whole (q .lots * lots-of (on-side (opposite (q .side)) points))) (average-distance net (q .station) (on-side (opposite (q .side)) points)))
 
 -- the sum, over all pairs of an entry and an exit, of lots times lots times distance
 abbrev pub pairs-weight : Net → List Point → ℕ

@@ -58,7 +58,8 @@ so-far-start whole n carried text e z t =
       count = omega (arith, e);
       shown = t;
       accepted = subst (Accepted []) (sym z) none;
-      onward = λ os last a. subst (λ c. Answers 1 c whole os last) z (subst (λ k. Answers k carried whole os last) e a) }
+      onward = λ os last a. subst (λ c. Answers 1 c whole os last) z (subst (λ k. Answers k carried whole os last) e a);
+    }
 
 pub so-far-more : (whole : List Raw) (l : Raw) (ls : List Raw) (n : ℕ) (carried then : ℤ) (text new : Text)
     → SoFar whole (l ∷ ls) n carried text → Turns n carried l text new then → SoFar whole ls (n + 1) then new
@@ -69,14 +70,15 @@ so-far-more whole l ls n carried then text new s t =
       done = done ++ (o ∷ []);
       count = omega (arith, s .count, length-append done (o ∷ []));
       shown =
-        t .put ∙ ap (λ x. x ++ line-text n o) (s .shown) ∙ ap (λ k. printed 1 done ++ line-text k o) (s .count) ∙ sym (printed-push 1 done o);
+          t .put ∙ ap (λ x. x ++ line-text n o) (s .shown) ∙ ap (λ k. printed 1 done ++ line-text k o) (s .count) ∙ sym (printed-push 1 done o);
       accepted =
-        subst (λ cs. Accepted cs then) (sym (closings-push done o))
-        (subst (Accepted (closings-in done ++ closings-in (o ∷ []))) (sym (t .left)) (accepted-on (closings-in done) carried (read-close n l) o (s .accepted) (t .comes)));
+          subst (λ cs. Accepted cs then) (sym (closings-push done o))
+          (subst (Accepted (closings-in done ++ closings-in (o ∷ []))) (sym (t .left)) (accepted-on (closings-in done) carried (read-close n l) o (s .accepted) (t .comes)));
       onward =
-        λ os last a.
+          λ os last a.
           subst (λ x. Answers 1 (pos 0) whole x last) (sym (append-assoc done (o ∷ []) os))
-          (s .onward (o ∷ os) last (more (t .comes) (subst (λ c. Answers (n + 1) c ls os last) (t .left) a))) }
+          (s .onward (o ∷ os) last (more (t .comes) (subst (λ c. Answers (n + 1) c ls os last) (t .left) a)));
+    }
 
 pub so-far-end : (whole : List Raw) (n : ℕ) (carried : ℤ) (text : Text) → SoFar whole [] n carried text → Printed whole text
 so-far-end whole n carried text s =
@@ -86,4 +88,5 @@ so-far-end whole n carried text s =
       answered = subst (λ os. Answers 1 (pos 0) whole os carried) (append-nil (s .done)) (s .onward [] carried meaning.none);
       shown = s .shown;
       accepted = s .accepted;
-      balanced = balance (closings-in (s .done)) carried (s .accepted) }
+      balanced = balance (closings-in (s .done)) carried (s .accepted);
+    }

@@ -35,7 +35,12 @@ fn carried_on(closing: Closing) -> Carried
 }
 
 // What line `n` comes back with.
-fn close_line(heap: Global, line: RawLine<'_>, n: usize, carried: Carried) -> Result<Closing, SheetFault>
+fn close_line(
+    heap: Global,
+    line: RawLine<'_>,
+    n: usize,
+    carried: Carried,
+) -> Result<Closing, SheetFault>
     ensures comes { λ r. ⌜ ComesOrNoMemory (carried .amount .0) (read-close n (raw-of (line .entry))) r ⌝ }
     ensures within { λ r. ⌜ made r (λ c. natAbs (c .rest .0) ≤ most-carried) ⌝ }
 {
@@ -45,7 +50,13 @@ fn close_line(heap: Global, line: RawLine<'_>, n: usize, carried: Carried) -> Re
 }
 
 // Runs line `n`, puts what it prints after what is printed, and gives what is then carried on.
-fn take_line(heap: Global, line: RawLine<'_>, n: usize, carried: Carried, out: &mut String) -> Result<Carried, AllocError>
+fn take_line(
+    heap: Global,
+    line: RawLine<'_>,
+    n: usize,
+    carried: Carried,
+    out: &mut String,
+) -> Result<Carried, AllocError>
     ensures { λ r. ⌜ made r (λ next. Turns n (carried .amount .0) (raw-of (line .entry)) (string-bytes (now (out .entry))) (string-bytes (now (out .exit))) (next .amount .0)) ⌝ }
 {
     match close_line(heap, line, n, carried) {

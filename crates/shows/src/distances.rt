@@ -25,7 +25,12 @@ fn put_distance(heap: Global, out: &mut String, distance: Option<Km>) -> Result<
 }
 
 // The distances from one station to all, each after a space.
-fn put_distances<S: Source>(heap: Global, out: &mut String, source: &S, a: u32) -> Result<(), AllocError>
+fn put_distances<S: Source>(
+    heap: Global,
+    out: &mut String,
+    source: &S,
+    a: u32,
+) -> Result<(), AllocError>
     ensures { λ r. ⌜ made r (λ _. string-bytes (now (out .exit)) ≡ string-bytes (now (out .entry)) ++ cells (net (now (source .entry)) .distance a) (net (now (source .entry)) .stations)) ⌝ }
 {
     let stations = source.stations();

@@ -33,9 +33,21 @@ use terms::points::Side;
 fn network(heap: Global) -> Result<Link<Pairing<Trunk, PipeMap>>, SourceFault> {
     let trunk = Trunk::new(heap, &[0, 40, 100])?;
     let pipes = [
-        Pipe { from: 0, to: 1, length: Km(25) },
-        Pipe { from: 1, to: 2, length: Km(10) },
-        Pipe { from: 0, to: 2, length: Km(50) },
+        Pipe {
+            from: 0,
+            to: 1,
+            length: Km(25),
+        },
+        Pipe {
+            from: 1,
+            to: 2,
+            length: Km(10),
+        },
+        Pipe {
+            from: 0,
+            to: 2,
+            length: Km(50),
+        },
     ];
     let map = PipeMap::new(heap, 4, &pipes)?;
     let pairing = Pairing::new(trunk, map, 2, 0)?;
@@ -53,13 +65,27 @@ pub(crate) fn show_distances(rt: &LibcRuntime) -> Result<(), AnyError> {
     }
 }
 
-fn side(main: u64, storage: u64, main_lots: u32, storage_lots: u32, relief: u32) -> Option<SidePlan> {
+fn side(
+    main: u64,
+    storage: u64,
+    main_lots: u32,
+    storage_lots: u32,
+    relief: u32,
+) -> Option<SidePlan> {
     let Some(relief) = Relief::new(relief) else {
         return None;
     };
     Some(SidePlan {
-        weights: Weights { main, other: 0, storage },
-        lots: SideLots { main: Lots(main_lots), other: Lots(0), storage: Lots(storage_lots) },
+        weights: Weights {
+            main,
+            other: 0,
+            storage,
+        },
+        lots: SideLots {
+            main: Lots(main_lots),
+            other: Lots(0),
+            storage: Lots(storage_lots),
+        },
         relief,
     })
 }
@@ -81,7 +107,10 @@ fn draft() -> Option<Draft> {
 // The six lines of a decision, and the price of its first quarter at 1.25 for a transmission entry.
 fn decided(rt: &LibcRuntime, draft: Draft) -> Result<(), AnyError> {
     let approved = draft.approve();
-    let quarter = Product { term: Term::Quarter, number: 0 };
+    let quarter = Product {
+        term: Term::Quarter,
+        number: 0,
+    };
     let price = approved.price(Side::Entry, Kind::Transmission, quarter, 125);
     rt.print(approved.lines(rt.alloc())?)?;
     match price {

@@ -3,9 +3,9 @@
 mod examples;
 mod story;
 
-use sheet::run::run_sheet;
 use examples::show_distances;
 use examples::show_tariffs;
+use sheet::run::run_sheet;
 use std::alloc::Global;
 use std::env;
 use std::error::AnyError;

@@ -58,7 +58,11 @@ fn period() -> Figures {
 }
 
 fn shared(side: SideFigures) -> u64 {
-    side.main.share.0.saturating_add(side.other.share.0).saturating_add(side.storage.share.0)
+    side.main
+        .share
+        .0
+        .saturating_add(side.other.share.0)
+        .saturating_add(side.storage.share.0)
 }
 
 fn print_drawn(rt: &LibcRuntime, figures: TariffFigures) -> io::Result<()> {

@@ -32,9 +32,10 @@ within : (n d q r c : ℕ) → d * q + r ≡ n → Carries r d c → r < d → W
 within n d q r c e k m =
     let one : c * d ≤ 1 * d = mul-le-mul-right d (k .few) in
     elim (cases-order (2 * r) d) [
-      inl h ↦ record { high = omega arith; low = omega arith }
-    | inr (inl h) ↦ let z : c * d ≡ 0 * d = ap (λ x. x * d) (k .down h) in record { high = omega arith; low = omega arith }
-    | inr (inr h) ↦ let z : c * d ≡ 1 * d = ap (λ x. x * d) (k .up h) in record { high = omega arith; low = omega arith } ]
+      | inl h ↦ record { high = omega arith; low = omega arith }
+      | inr (inl h) ↦ let z : c * d ≡ 0 * d = ap (λ x. x * d) (k .down h) in record { high = omega arith; low = omega arith }
+      | inr (inr h) ↦ let z : c * d ≡ 1 * d = ap (λ x. x * d) (k .up h) in record { high = omega arith; low = omega arith }
+    ]
 
 pub nearest-within : (n d : ℕ) → 0 < d → Within n d (nearest n d)
 unfolding nearest
@@ -45,29 +46,32 @@ nearest-within n d h =
 up-at-half : (n d q r c : ℕ) → d * q + r ≡ n → r < d → c ≤ 1 → (2 * r ≡ d → c ≡ 1) → 2 * n ≡ 2 * ((q + c) * d) + d → ⊥
 up-at-half n d q r c e m few half t =
     elim (cases-lt c 1) [
-      inl h ↦
-        let none : c ≡ 0 = omega arith in
-        let z : c * d ≡ 0 * d = ap (λ x. x * d) none in
-        let one : c ≡ 1 = half (omega arith) in
-        omega arith
-    | inr h ↦
-        let one : c ≡ 1 = omega arith in
-        let z : c * d ≡ 1 * d = ap (λ x. x * d) one in
-        omega arith ]
+      | inl h ↦
+          let none : c ≡ 0 = omega arith in
+          let z : c * d ≡ 0 * d = ap (λ x. x * d) none in
+          let one : c ≡ 1 = half (omega arith) in
+          omega arith
+      | inr h ↦
+          let one : c ≡ 1 = omega arith in
+          let z : c * d ≡ 1 * d = ap (λ x. x * d) one in
+          omega arith
+    ]
 
 pub nearest-half-up : (n d : ℕ) → 0 < d → HalfUp n d (nearest n d)
 unfolding nearest
 nearest-half-up n d h =
     record {
       within = nearest-within n d h;
-      tie = up-at-half n d (n / d) (n % d) (carry (n / d) (n % d) d) (div-add-mod n d) (mod-lt n h) (carries (n / d) (n % d) d .few) (carry-half (n / d) (n % d) d) }
+      tie = up-at-half n d (n / d) (n % d) (carry (n / d) (n % d) d) (div-add-mod n d) (mod-lt n h) (carries (n / d) (n % d) d .few) (carry-half (n / d) (n % d) d);
+    }
 
 -- the carry makes the quotient no larger than the dividend
 carried-le : (n d c : ℕ) → 0 < d → Carries (n % d) d c → n / d + c ≤ n
 carried-le n d c h k =
     elim (cases-lt (2 * (n % d)) d) [
-      inl l ↦ omega (arith, k .down l, div-le-self n d)
-    | inr g ↦ let m : n / d * 1 ≤ n / d * d = mul-le-mul-left (n / d) h in omega (arith, k .few, div-add-mod n d) ]
+      | inl l ↦ omega (arith, k .down l, div-le-self n d)
+      | inr g ↦ let m : n / d * 1 ≤ n / d * d = mul-le-mul-left (n / d) h in omega (arith, k .few, div-add-mod n d)
+    ]
 
 pub nearest-le : (n d : ℕ) → 0 < d → nearest n d ≤ n
 unfolding nearest

@@ -13,7 +13,11 @@ impl Divisor {
     pub fn new(value: u64) -> Option<Divisor>
         ensures { λ r. ⌜ Cases r (value ≡ 0) (λ d. d .value ≡ value) ⌝ }
     {
-        if value > 0 { Some(Divisor { value }) } else { None }
+        if value > 0 {
+            Some(Divisor { value })
+        } else {
+            None
+        }
     }
 
     pub fn get(self) -> u64

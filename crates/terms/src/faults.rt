@@ -178,6 +178,10 @@ impl BookFault {
         let number = self.number();
         let part = self.part();
         let place = self.place();
-        Refusal { number, part, place }
+        Refusal {
+            number,
+            part,
+            place,
+        }
     }
 }

@@ -5,6 +5,5 @@ pub mod measures;
 pub mod points;
 pub mod refusals;
 pub mod rounding;
-
 #[cfg(test)]
 mod tests;

@@ -10,7 +10,11 @@ fn half_up(quotient: u64, remainder: u64, divisor: u64) -> u64
     requires { ⌜ remainder < divisor ⌝ }
     ensures { λ c. ⌜ c ≡ carry quotient remainder divisor ⌝ }
 {
-    if remainder < divisor - remainder { 0 } else { 1 }
+    if remainder < divisor - remainder {
+        0
+    } else {
+        1
+    }
 }
 
 // n / by to the nearest whole.

@@ -3,17 +3,17 @@ use crate::faults::BookFault;
 use crate::faults::ClosingFigure;
 use crate::faults::SourceFault;
 use crate::points::Kind;
-use crate::points::Side;
-use crate::refusals::Part;
-use crate::refusals::Refusal;
-use crate::rounding::to_nearest;
-use crate::rounding::to_nearest_signed;
 use crate::points::KindDebug;
 use crate::points::KindPartialEq;
+use crate::points::Side;
 use crate::points::SideDebug;
 use crate::points::SidePartialEq;
+use crate::refusals::Part;
+use crate::refusals::Refusal;
 use crate::refusals::RefusalDebug;
 use crate::refusals::RefusalPartialEq;
+use crate::rounding::to_nearest;
+use crate::rounding::to_nearest_signed;
 use std::test::*;
 
 fn divisor(value: u64) -> Result<Divisor, Fail> {
@@ -78,8 +78,36 @@ fn storage_stands_on_both_sides() -> Result<(), Fail> {
 fn a_fault_inside_another_keeps_its_refusal() -> Result<(), Fail> {
     let inner = SourceFault::BadFigure(7);
     check_eq(BookFault::Source(inner).refusal(), inner.refusal())?;
-    check_eq(inner.refusal(), Refusal { number: 19, part: Part::Source, place: 7 })?;
-    check_eq(BookFault::NoStation.refusal(), Refusal { number: 3, part: Part::Book, place: 0 })?;
-    check_eq(SourceFault::NoStation.refusal(), Refusal { number: 3, part: Part::Source, place: 0 })?;
-    check_eq(BookFault::OutOfRange(ClosingFigure::Index).refusal(), Refusal { number: 9, part: Part::Book, place: 12 })
+    check_eq(
+        inner.refusal(),
+        Refusal {
+            number: 19,
+            part: Part::Source,
+            place: 7,
+        },
+    )?;
+    check_eq(
+        BookFault::NoStation.refusal(),
+        Refusal {
+            number: 3,
+            part: Part::Book,
+            place: 0,
+        },
+    )?;
+    check_eq(
+        SourceFault::NoStation.refusal(),
+        Refusal {
+            number: 3,
+            part: Part::Source,
+            place: 0,
+        },
+    )?;
+    check_eq(
+        BookFault::OutOfRange(ClosingFigure::Index).refusal(),
+        Refusal {
+            number: 9,
+            part: Part::Book,
+            place: 12,
+        },
+    )
 }

@@ -13,6 +13,6 @@ pub loop-i-again : need.loop-i-again
 loop-i-again g c =
     let law = g .S·Source·met .lawful (c .args .source .now) in
     elim (c .match-distance .came) [
-      need.in-Some w ↦ omega (arith, w .sum-is, c .loop-i .inv, short _ law _ _ (w .in-Some .k .0) (w .in-Some .ensures tt))
-    | need.in-rest w ↦ omega (arith, w .sum-is, c .loop-i .inv)
+      | need.in-Some w ↦ omega (arith, w .sum-is, c .loop-i .inv, short _ law _ _ (w .in-Some .k .0) (w .in-Some .ensures tt))
+      | need.in-rest w ↦ omega (arith, w .sum-is, c .loop-i .inv)
     ]

@@ -23,9 +23,10 @@ start : (p q j : ℕ) → j ≡ none-figure → j ≡ cond (eqb p q) (cond (ltb 
 start p q j e = grind (arith, tells)
 
 pub loop-a-holds : need.loop-a-holds
-loop-a-holds c =
-    (record { few = c .pre .few; size = c .loop-w .kept .figures ∙ c .pre .size },
-     λ p q hp hq. start p q _ (c .loop-w .inv (p * c .args .n + q) (omega (arith, cell-in (c .args .n) p q hp hq, c .pre .size))))
+loop-a-holds c = (
+  record { few = c .pre .few; size = c .loop-w .kept .figures ∙ c .pre .size },
+  λ p q hp hq. start p q _ (c .loop-w .inv (p * c .args .n + q) (omega (arith, cell-in (c .args .n) p q hp hq, c .pre .size))),
+)
 
 turn : (p q a u x : ℕ) → u ≡ cond (eqb p a) (cond (eqb q a) 0 x) x → x ≡ cond (eqb p q) (cond (ltb p a) 0 none-figure) none-figure → u ≡ cond (eqb p q) (cond (ltb p (a + 1)) 0 none-figure) none-figure
 turn p q a u x e f = grind (arith, tells)
@@ -35,7 +36,8 @@ loop-a-again c =
     let n = c .args .n in
     let ws = c .loop-a .figures in
     let a = c .loop-a .a in
-    let sq = c .loop-a .inv .0 in
-    (record { few = sq .few; size = simp length-set (sq .size) },
-     λ p q hp hq. rw (c .cell .ensures .value)
-       (turn p q a _ (at n ws p q) (written n ws a a 0 p q sq (omega arith) (omega arith) hq) (c .loop-a .inv .1 p q hp hq)))
+    let sq = c .loop-a .inv .0 in (
+      record { few = sq .few; size = simp length-set (sq .size) },
+      λ p q hp hq. rw (c .cell .ensures .value)
+          (turn p q a _ (at n ws p q) (written n ws a a 0 p q sq (omega arith) (omega arith) hq) (c .loop-a .inv .1 p q hp hq)),
+    )

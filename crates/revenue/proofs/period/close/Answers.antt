@@ -16,6 +16,6 @@ returns c =
     let fd : SFits w64 (c .due .result) = search needs in
     let base = c .in-Some-base .ensures tt .value in
     let is =
-        closed was f (c .in-Some-base .base) correction (c .due .result) (c .settle .result) (c .in-rest .ensures tt .ruled)
-        (base .0) (base .1) (c .correction-correction .ensures .value) (simp toZ-ofZ at (c .due .ensures .value)) (simp toZ-ofZ at (c .settle .ensures)) in
+    closed was f (c .in-Some-base .base) correction (c .due .result) (c .settle .result) (c .in-rest .ensures tt .ruled)
+    (base .0) (base .1) (c .correction-correction .ensures .value) (simp toZ-ofZ at (c .due .ensures .value)) (simp toZ-ofZ at (c .settle .ensures)) in
     record { ruled = is .0; within = is .1; law = continues was f (c .settle .result) (is .0) }

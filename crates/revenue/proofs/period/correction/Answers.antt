@@ -25,7 +25,8 @@ returns c =
     let j = pos (c .args .f .justified .0) -ℤ pos (c .args .f .realised .0) in
     simp toZ-ofZ
     (record {
-       value =
-         v ∙ ap (nearest-away (c .times-indexed .result)) by
-         ∙ ap (λ x. nearest-away x 10000) (t ∙ ap (λ x. x *ℤ c .factor .result) d ∙ ap (λ x. j *ℤ x) k);
-       bound = omega (arith, b, m) })
+      value =
+          v ∙ ap (nearest-away (c .times-indexed .result)) by
+          ∙ ap (λ x. nearest-away x 10000) (t ∙ ap (λ x. x *ℤ c .factor .result) d ∙ ap (λ x. j *ℤ x) k);
+      bound = omega (arith, b, m);
+    })

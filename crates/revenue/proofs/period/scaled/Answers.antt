@@ -11,4 +11,5 @@ returns c =
     let is : c .unwrap .result .value ≡ c .args .by = search needs in
     record {
       value = c .to-nearest .ensures .value ∙ ap (nearest (c .args .a * c .args .b)) is;
-      bound = omega (arith, c .to-nearest .ensures .bound, mul-le-mul-left (c .args .a) (c .pre .small)) }
+      bound = omega (arith, c .to-nearest .ensures .bound, mul-le-mul-left (c .args .a) (c .pre .small));
+    }

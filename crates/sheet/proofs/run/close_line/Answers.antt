@@ -14,15 +14,17 @@ returns-in-Break-closing c =
     let p = err-from-errBy (c .from-residual-in-Break-closing .result) (c .from-residual-in-Break-closing .ensures .1) in
     rw (p .1, p .2)
     (record {
-       comes =
-         refused-comes (c .args .carried .amount .0) (read-close (c .args .n) (raw-of (c .args .line))) (c .in-Continue-figures .figures) _
-         (c .in-Continue-figures .ensures tt .due) (c .in-Break-closing .ensures tt .ruled);
-       within = tt })
+      comes =
+          refused-comes (c .args .carried .amount .0) (read-close (c .args .n) (raw-of (c .args .line))) (c .in-Continue-figures .figures) _
+          (c .in-Continue-figures .ensures tt .due) (c .in-Break-closing .ensures tt .ruled);
+      within = tt;
+    })
 
 pub returns : need.returns
 returns c =
     record {
       comes =
-        closed-comes (c .args .carried .amount .0) (read-close (c .args .n) (raw-of (c .args .line))) (c .in-Continue-figures .figures) (c .in-Continue-closing .closing)
-        (c .in-Continue-figures .ensures tt .due) (c .in-Continue-closing .ensures tt .ruled);
-      within = c .in-Continue-closing .ensures tt .within .0 }
+          closed-comes (c .args .carried .amount .0) (read-close (c .args .n) (raw-of (c .args .line))) (c .in-Continue-figures .figures) (c .in-Continue-closing .closing)
+          (c .in-Continue-figures .ensures tt .due) (c .in-Continue-closing .ensures tt .ruled);
+      within = c .in-Continue-closing .ensures tt .within .0;
+    }

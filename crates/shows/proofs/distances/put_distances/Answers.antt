@@ -12,6 +12,6 @@ loop-b-again g c =
     let old = string-bytes (c .args .out .now) in
     rw add-one
     (c .in-Continue-put-distance .ensures tt
-     ∙ ap (λ d. string-bytes (c .loop-b .out) ++ (codes " " ++ distance-text d)) (c .distance .ensures)
-     ∙ ap (λ t. t ++ (codes " " ++ distance-text (far (c .loop-b .b)))) (c .loop-b .inv)
-     ∙ append-assoc old (cells far (c .loop-b .b)) (codes " " ++ distance-text (far (c .loop-b .b))))
+    ∙ ap (λ d. string-bytes (c .loop-b .out) ++ (codes " " ++ distance-text d)) (c .distance .ensures)
+    ∙ ap (λ t. t ++ (codes " " ++ distance-text (far (c .loop-b .b)))) (c .loop-b .inv)
+    ∙ append-assoc old (cells far (c .loop-b .b)) (codes " " ++ distance-text (far (c .loop-b .b))))

@@ -16,5 +16,5 @@ returns g c =
     let net = g .S·Source .net (c .args .source .now) in
     let head = c .in-Continue-push-str .ensures tt .bytes ∙ ap (λ t. string-bytes (c .args .out .now) ++ t) (c .as-str .ensures .value ∙ c .in-Continue-head .ensures tt .made) in
     joined (string-bytes (c .args .out .now)) (decimal (c .args .a) ++ codes ":") (cells (net .distance (c .args .a)) (net .stations)) (codes "\n") (row-text net (c .args .a)) _ _ _
-      head (c .in-Continue-put-distances .ensures tt) (c .in-Continue-push-str-2 .ensures tt .bytes)
-      (append-assoc (decimal (c .args .a)) (codes ":") (cells (net .distance (c .args .a)) (net .stations) ++ codes "\n"))
+    head (c .in-Continue-put-distances .ensures tt) (c .in-Continue-push-str-2 .ensures tt .bytes)
+    (append-assoc (decimal (c .args .a)) (codes ":") (cells (net .distance (c .args .a)) (net .stations) ++ codes "\n"))

@@ -30,4 +30,5 @@ returns c =
       value = is;
       bound = subst (λ q. q ≤ n) (sym is) (nearest-le n d some);
       within = subst (Within n d) (sym is) (nearest-within n d some);
-      half = subst (HalfUp n d) (sym is) (nearest-half-up n d some) }
+      half = subst (HalfUp n d) (sym is) (nearest-half-up n d some);
+    }

@@ -11,10 +11,12 @@ pub returns-then-length-gt-LONGEST : need.returns-then-length-gt-LONGEST
 returns-then-length-gt-LONGEST g c =
     record {
       made = (inr (⊎-elim (λ h. omega arith) (λ h. omega arith), inl (omega arith, refl)), refl);
-      law = link-law _ (g .S·Source·met .lawful (c .args .below)) }
+      law = link-law _ (g .S·Source·met .lawful (c .args .below));
+    }
 
 pub returns : need.returns
 returns g c =
     record {
       made = ((⊎-elim (λ h. omega arith) (λ h. omega arith), (λ h. omega arith, tt)), refl);
-      law = link-law _ (g .S·Source·met .lawful (c .args .below)) }
+      law = link-law _ (g .S·Source·met .lawful (c .args .below));
+    }

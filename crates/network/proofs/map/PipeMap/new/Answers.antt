@@ -36,9 +36,10 @@ ghost-result c =
     let ps = c .args .pipes .now in
     let t = c .in-Some-distances-along .table in
     let made = c .in-Some-distances-along .ensures tt in
-    let same = c .in-Ok .ensures tt .made .0 in
-    (∣ kept-good n (t .count) ps (vec-items (c .in-Ok .pipes)) (made .0) same (goods-of n ps (c .in-rest .ensures tt)) ∣₁,
-     (∣ kept-least n (t .count) ps (vec-items (c .in-Ok .pipes)) (vec-items (t .figures)) (made .0) same (made .1) ∣₁, tt))
+    let same = c .in-Ok .ensures tt .made .0 in (
+      ∣ kept-good n (t .count) ps (vec-items (c .in-Ok .pipes)) (made .0) same (goods-of n ps (c .in-rest .ensures tt)) ∣₁,
+      (∣ kept-least n (t .count) ps (vec-items (c .in-Ok .pipes)) (vec-items (t .figures)) (made .0) same (made .1) ∣₁, tt),
+    )
 
 pub returns : need.returns
 returns c =
@@ -48,7 +49,9 @@ returns c =
     let made = c .in-Some-distances-along .ensures tt in
     let net : grid-net n (vec-items (t .figures)) ≡ grid-net (t .count) (vec-items (t .figures)) = ap (λ (x : ℕ). grid-net x (vec-items (t .figures))) (sym (made .0)) in
     record {
-      made =
-        ((grind arith, none-bad _ _ (c .in-rest .ensures tt)),
-         subst (Shortest (Joins ps) n) net (least-shortest n ps (goods-of n ps (c .in-rest .ensures tt)) (vec-items (t .figures)) (made .1)));
-      one = one-shortest _ _ }
+      made = (
+        (grind arith, none-bad _ _ (c .in-rest .ensures tt)),
+        subst (Shortest (Joins ps) n) net (least-shortest n ps (goods-of n ps (c .in-rest .ensures tt)) (vec-items (t .figures)) (made .1)),
+      );
+      one = one-shortest _ _;
+    }

@@ -9,6 +9,6 @@ returns g c =
     let a = c .args .a in
     let b = c .args .b in
     let whole =
-        capped-parts (n .distance a b) (n .distance a (t .p)) (n .distance (t .q) b) (n .distance a (t .q)) (n .distance (t .p) b) (Some (t .length .0))
-        (g .S·Source·met .lawful (t .below) .short a b) in
+    capped-parts (n .distance a b) (n .distance a (t .p)) (n .distance (t .q) b) (n .distance a (t .q)) (n .distance (t .p) b) (Some (t .length .0))
+    (g .S·Source·met .lawful (t .below) .short a b) in
     cc
