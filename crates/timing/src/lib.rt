@@ -1,6 +1,7 @@
 //! Work for the benchmarks, exported to C. A `Global` takes no bytes, so a C caller passes nothing for it.
 ghost use Prim.Native.Nat.{_*_, _≤_};
 ghost use Rattle.network.specs.Limits.{longest};
+use book::Book;
 use network::limits::BOTTOM_STATIONS;
 use network::limits::MOST_PIPES;
 use network::link::Link;
@@ -10,9 +11,14 @@ use network::map::PipeMapSource;
 use network::pipe::Pipe;
 use network::refused::FaultFromLayer;
 use network::source::Source;
+use network::trunk::Trunk;
+use network::trunk::TrunkSource;
 use std::alloc::Global;
 use terms::faults::SourceFault;
 use terms::measures::Km;
+use terms::measures::Lots;
+use terms::points::Kind;
+use terms::points::Side;
 
 // A map of 64 stations with 200 pipes.
 fn large_map(heap: Global) -> Result<PipeMap, SourceFault> {
@@ -82,6 +88,58 @@ pub extern "C" fn timing_three_links(heap: Global, turns: u32) -> u64
 {
     match three_links(heap) {
         Ok(pile) => ask(&pile, turns),
+        Err(_) => 0,
+    }
+}
+
+// So many points of one side, each at a station of its own as far as there are stations, with 400 lots.
+fn fill<S: Source>(book: &mut Book<S>, side: Side, kind: Kind, count: u32) {
+    for i in 0..count {
+        if let Ok(number) = book.open(side, kind, i % BOTTOM_STATIONS) {
+            let _ = book.plan(number, Lots(400));
+        }
+    }
+}
+
+// How many of so many draws on a full book were answered with a draft: all, where each two stations have a short distance.
+fn draws<S: Source + Drop>(source: S, turns: u32) -> u32
+    ensures { λ r. ⌜ r ≤ turns ⌝ }
+{
+    let mut book = Book::new(source);
+    fill(&mut book, Side::Entry, Kind::Transmission, 32);
+    fill(&mut book, Side::Exit, Kind::Local, 96);
+    let mut drawn = 0;
+    while drawn < turns && book.draw().is_ok() {
+        drawn += 1;
+    }
+    drawn
+}
+
+// A trunk of 64 stations, a kilometre apart.
+fn long_trunk(heap: Global) -> Result<Trunk, SourceFault> {
+    let mut positions = [0; 64];
+    for i in 0..64 {
+        positions[i] = i as u32;
+    }
+    Trunk::new(heap, &positions)
+}
+
+#[unsafe(no_mangle)]
+pub extern "C" fn timing_trunk_draws(heap: Global, turns: u32) -> u32
+    ensures { λ r. ⌜ r ≤ turns ⌝ }
+{
+    match long_trunk(heap) {
+        Ok(trunk) => draws(trunk, turns),
+        Err(_) => 0,
+    }
+}
+
+#[unsafe(no_mangle)]
+pub extern "C" fn timing_map_draws(heap: Global, turns: u32) -> u32
+    ensures { λ r. ⌜ r ≤ turns ⌝ }
+{
+    match large_map(heap) {
+        Ok(map) => draws(map, turns),
         Err(_) => 0,
     }
 }

@@ -1,4 +1,4 @@
-// Times the making of a large pipe map, a distance in it, and a distance in a pile of three links over it.
+// Times the making of a large pipe map, a distance in it, a distance in a pile of three links over it, and draws on a full book.
 // Build and run: bench/run
 #include <stdint.h>
 #include <stdio.h>
@@ -7,6 +7,8 @@
 uint32_t timing_maps(uint32_t turns);
 uint64_t timing_distances(uint32_t turns);
 uint64_t timing_three_links(uint32_t turns);
+uint32_t timing_trunk_draws(uint32_t turns);
+uint32_t timing_map_draws(uint32_t turns);
 
 static double seconds(void) {
     struct timespec t;
@@ -33,8 +35,21 @@ static double each(uint64_t (*ask)(uint32_t), uint32_t turns) {
     return ((end - made) - (made - start)) / turns * 1e9;
 }
 
+// What one draw on a full book took, without the making of the book.
+static double draw(uint32_t (*draws)(uint32_t), uint32_t turns) {
+    double start = seconds();
+    draws(0);
+    double made = seconds();
+    uint32_t drawn = draws(turns);
+    double end = seconds();
+    if (drawn != turns) {
+        printf("not drawn\n");
+    }
+    return ((end - made) - (made - start)) / turns * 1e9;
+}
+
 int main(void) {
-    const uint32_t maps = 200, asks = 4000000;
+    const uint32_t maps = 200, asks = 4000000, times = 2000;
     double start = seconds();
     uint32_t made = timing_maps(maps);
     double one = (seconds() - start) / maps * 1e9;
@@ -42,5 +57,7 @@ int main(void) {
     ok &= within("a map of 64 stations and 200 pipes", one, 5e6);
     ok &= within("a distance in it", each(timing_distances, asks), 100);
     ok &= within("a distance under three links", each(timing_three_links, asks), 10e3);
+    ok &= within("a draw on a full book over a trunk", draw(timing_trunk_draws, times), 1e6);
+    ok &= within("a draw on a full book over a map", draw(timing_map_draws, times), 1e6);
     return ok ? 0 : 1;
 }
