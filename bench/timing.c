@@ -31,6 +31,7 @@ static double each(uint64_t (*ask)(uint32_t), uint32_t turns) {
     double end = seconds();
     if (none != 0 || sum == 0) {
         printf("no memory\n");
+        return 1e300;
     }
     return ((end - made) - (made - start)) / turns * 1e9;
 }
@@ -44,6 +45,7 @@ static double draw(uint32_t (*draws)(uint32_t), uint32_t turns) {
     double end = seconds();
     if (drawn != turns) {
         printf("not drawn\n");
+        return 1e300;
     }
     return ((end - made) - (made - start)) / turns * 1e9;
 }
