@@ -15,14 +15,14 @@ returns c =
     let e = c.args.entries in
     let x = c.args.exits in
     let d = drawing_of c.args.allowed.dinars.0 e x in
-    let p = c.side-figures.result in
-    let q = c.side-figures-2.result in
+    let p = c.side_figures.result in
+    let q = c.side_figures-2.result in
     let of-entries = c.in-Some.ensures.0 ∙ ap (λ n. basis n e.weights e.relief.parts) c.halves.ensures.entries in
     let of-exits = c.in-Some-new.ensures.0 ∙ ap (λ n. basis n x.weights x.relief.parts) c.halves.ensures.exits in
-    let some = subst HasShares of-entries c.in-Some.entry-side.shared in
-    let others = subst HasShares of-exits c.in-Some-new.exit-side.shared in
-    let p-is = c.side-figures.ensures.value ∙ ap (λ b. side_of b e.lots) of-entries in
-    let q-is = c.side-figures-2.ensures.value ∙ ap (λ b. side_of b x.lots) of-exits in
+    let some = subst HasShares of-entries c.in-Some.entry_side.shared in
+    let others = subst HasShares of-exits c.in-Some-new.exit_side.shared in
+    let p-is = c.side_figures.ensures.value ∙ ap (λ b. side_of b e.lots) of-entries in
+    let q-is = c.side_figures-2.ensures.value ∙ ap (λ b. side_of b x.lots) of-exits in
     record {
       drawn = (
         ((λ z. omega (arith, some)), ((λ z. omega (arith, others)), tt)),
@@ -30,6 +30,6 @@ returns c =
       );
       promised =
           promised d (figures p q) (omega arith)
-          (subst (λ b. SidePromised b e.lots p) of-entries c.side-figures.ensures.promised)
-          (subst (λ b. SidePromised b x.lots q) of-exits c.side-figures-2.ensures.promised);
+          (subst (λ b. SidePromised b e.lots p) of-entries c.side_figures.ensures.promised)
+          (subst (λ b. SidePromised b x.lots q) of-exits c.side_figures-2.ensures.promised);
     }

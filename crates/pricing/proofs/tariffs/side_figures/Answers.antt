@@ -19,7 +19,7 @@ returns c =
     let lots = c.args.lots in
     let release = c.storage_share.result.1 in
     let k = c.storage_share.ensures in
-    let h = c.hand-on.ensures in
+    let h = c.hand_on.ensures in
     let main = h.main ∙ main_is b side.relieved release.before release.freed release.main release.other k.before k.freed k.main k.other in
     let other = h.other ∙ other_is b side.relieved release.before release.freed release.main release.other k.before k.freed k.main k.other in
     let value : ◌≡◌ {A = SideFigures} (record { main = c.element.result; other = c.element-2.result; storage = c.element-3.result }) (side_of b lots) =

@@ -13,6 +13,6 @@ returns c =
     let fd : SFits w64 c.due.result = search rules in
     let base = c.in-Some-base.ensures.value in
     let is =
-    closed was f c.in-Some-base.base correction c.due.result c.settle.result c.in-default.ensures.ruled
+    closed was f c.in-Some-base.base correction c.due.result c.settle.result c.in_default.ensures.ruled
     base.0 base.1 c.correction-correction.ensures.value (simp to_z-of_z at c.due.ensures.value) (simp to_z-of_z at c.settle.ensures) in
     record { ruled = is.0; within = is.1; law = continues was f c.settle.result is.0 }

@@ -5,14 +5,14 @@ use Rattle.revenue.proofs.period.correction.Goals as goal
 
 pub returns : goal.returns
 returns c =
-    let fr : SFits w64 c.to-nearest-signed.result = search rules in
+    let fr : SFits w64 c.to_nearest_signed.result = search rules in
     let fi : SFits w64 c.times-indexed.result = search rules in
     let fd : SFits w64 c.difference.result = search rules in
     let fk : SFits w64 c.factor.result = search rules in
     let fx : SFits w64 c.args.f.index.0 = search rules in
     let by : c.unwrap.result.value ≡ 10000 = search rules in
-    let v = simp to_z-of_z at c.to-nearest-signed.ensures.value in
-    let b = simp to_z-of_z at c.to-nearest-signed.ensures.bound in
+    let v = simp to_z-of_z at c.to_nearest_signed.ensures.value in
+    let b = simp to_z-of_z at c.to_nearest_signed.ensures.bound in
     let t = simp to_z-of_z at c.times-indexed.ensures.value in
     let m = c.times-indexed.ensures.bound in
     let d = c.difference.ensures.value in

@@ -6,6 +6,6 @@ pub returns : goal.returns
 returns c =
     let is : c.unwrap.result.value ≡ c.args.by = search rules in
     record {
-      value = c.to-nearest.ensures.value ∙ ap (nearest (c.args.a * c.args.b)) is;
-      bound = omega (arith, c.to-nearest.ensures.bound, mul-le-mul_left c.args.a c.requires.small);
+      value = c.to_nearest.ensures.value ∙ ap (nearest (c.args.a * c.args.b)) is;
+      bound = omega (arith, c.to_nearest.ensures.bound, mul-le-mul_left c.args.a c.requires.small);
     }

@@ -3,8 +3,8 @@ use Rattle.std.proofs.lemmas.Int.{to_z-of_z}
 use Rattle.revenue.proofs.Amounts.{product_le, sfits}
 use Rattle.revenue.proofs.period.times.Goals as goal
 
-pub overflow-mul-result : goal.overflow-mul-result
-overflow-mul-result c =
+pub overflow_mul-result : goal.overflow_mul-result
+overflow_mul-result c =
     let fa = c.ranges.amount in
     let fb = c.ranges.by in
     let le = product_le c.args.amount c.args.by _ _ c.requires.0 c.requires.1 in

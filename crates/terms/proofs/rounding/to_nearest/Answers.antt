@@ -8,12 +8,12 @@ sum_is : (n d e k : ℕ) → d ≡ e → k ≡ carry (n / d) (n % d) d → n / d
 unfolding nearest
 sum_is n d e k p h = ap (λ x. n / d + x) h ∙ ap (λ x. n / x + carry (n / x) (n % x) x) p
 
-pub overflow-add-result : goal.overflow-add-result
-overflow-add-result c =
+pub overflow_add-result : goal.overflow_add-result
+overflow_add-result c =
     let n = c.args.n in
     let d = c.get-d.result in
     let some : 0 < d = c.get-d.ensures.some in
-    let is : n / d + c.half-up.result ≡ nearest n d = sum_is n d d c.half-up.result (search rules) c.half-up.ensures in
+    let is : n / d + c.half_up.result ≡ nearest n d = sum_is n d d c.half_up.result (search rules) c.half_up.ensures in
     let le : nearest n d ≤ n = nearest_le n d some in
     search (rules, is, le)
 
@@ -21,7 +21,7 @@ pub returns : goal.returns
 returns c =
     let n = c.args.n in
     let d = c.args.by.value in
-    let is : n / c.get-d.result + c.half-up.result ≡ nearest n d = sum_is n c.get-d.result d c.half-up.result c.get-d.ensures.value c.half-up.ensures in
+    let is : n / c.get-d.result + c.half_up.result ≡ nearest n d = sum_is n c.get-d.result d c.half_up.result c.get-d.ensures.value c.half_up.ensures in
     let some : 0 < d = c.args.by.some in
     record {
       value = is;

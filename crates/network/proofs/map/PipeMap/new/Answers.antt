@@ -19,20 +19,20 @@ kept_least n m ps qs ws e f h = subst (λ (x : ℕ). LeastGrid x qs ws) (sym e) 
 pub returns-in-Some : goal.returns-in-Some
 returns-in-Some c = record { made = inr (grind arith, first_bad_lem _ _ c.in-Some.i c.in-Some.ensures); one = one_shortest _ _ }
 
-pub returns-in-default-distances-along : goal.returns-in-default-distances-along
-returns-in-default-distances-along c = record { made = (grind arith, none_bad _ _ c.in-default.ensures); one = one_shortest _ _ }
+pub returns-in_default-distances_along : goal.returns-in_default-distances_along
+returns-in_default-distances_along c = record { made = (grind arith, none_bad _ _ c.in_default.ensures); one = one_shortest _ _ }
 
-pub returns-in-default-from-slice : goal.returns-in-default-from-slice
-returns-in-default-from-slice c = record { made = (grind arith, none_bad _ _ c.in-default.ensures); one = one_shortest _ _ }
+pub returns-in_default-from_slice : goal.returns-in_default-from_slice
+returns-in_default-from_slice c = record { made = (grind arith, none_bad _ _ c.in_default.ensures); one = one_shortest _ _ }
 
-pub invariant-of-result : goal.invariant-of-result
-invariant-of-result c =
+pub invariant_of-result : goal.invariant_of-result
+invariant_of-result c =
     let n = c.args.n in
     let ps = c.args.pipes.now in
-    let t = c.in-Some-distances-along.table in
-    let made = c.in-Some-distances-along.ensures in
+    let t = c.in-Some-distances_along.table in
+    let made = c.in-Some-distances_along.ensures in
     let same = c.in-Ok.ensures.made.0 in (
-      ∣ kept_good n t.count ps (vec_items c.in-Ok.pipes) made.0 same (goods_of n ps c.in-default.ensures) ∣₁,
+      ∣ kept_good n t.count ps (vec_items c.in-Ok.pipes) made.0 same (goods_of n ps c.in_default.ensures) ∣₁,
       (∣ kept_least n t.count ps (vec_items c.in-Ok.pipes) (vec_items t.figures) made.0 same made.1 ∣₁, tt),
     )
 
@@ -40,13 +40,13 @@ pub returns : goal.returns
 returns c =
     let n = c.args.n in
     let ps = c.args.pipes.now in
-    let t = c.in-Some-distances-along.table in
-    let made = c.in-Some-distances-along.ensures in
+    let t = c.in-Some-distances_along.table in
+    let made = c.in-Some-distances_along.ensures in
     let net : grid_net n (vec_items t.figures) ≡ grid_net t.count (vec_items t.figures) = ap (λ (x : ℕ). grid_net x (vec_items t.figures)) (sym made.0) in
     record {
       made = (
-        (grind arith, none_bad _ _ c.in-default.ensures),
-        subst (Shortest (Joins ps) n) net (least_shortest n ps (goods_of n ps c.in-default.ensures) (vec_items t.figures) made.1),
+        (grind arith, none_bad _ _ c.in_default.ensures),
+        subst (Shortest (Joins ps) n) net (least_shortest n ps (goods_of n ps c.in_default.ensures) (vec_items t.figures) made.1),
       );
       one = one_shortest _ _;
     }

@@ -11,13 +11,13 @@ use Rattle.network.proofs.map.methods.distances_along.Goals as goal
 held : (n : ℕ) (ps : List Pipe) (v : Vec ℕ Global) (ws : List ℕ) → length ws ≡ vec_len v → LeastGrid n ps ws → LeastGrid n ps (vec_items (with_items v ws))
 held n ps v ws e h = subst (LeastGrid n ps) (sym (with_items_is v ws e)) h
 
-pub invariant-of-result : goal.invariant-of-result
-invariant-of-result c =
+pub invariant_of-result : goal.invariant_of-result
+invariant_of-result c =
     let n = c.args.count in
     let ps = c.args.pipes.now in
-    let least = held n ps c.in-Ok.figures c.find-shortest.new.figures (omega (arith, c.find-shortest.auto.figures, c.deref-mut.ensures.len)) c.find-shortest.ensures in
+    let least = held n ps c.in-Ok.figures c.find_shortest.new.figures (omega (arith, c.find_shortest.auto.figures, c.deref_mut.ensures.len)) c.find_shortest.ensures in
     (omega arith, (omega arith, (c.in-Ok.ensures.made.1, (∣ least_laws n ps c.requires.1.1 _ least (omega arith) (omega arith) ∣₁, tt))))
 
 pub returns : goal.returns
 returns c =
-    (refl, held c.args.count c.args.pipes.now c.in-Ok.figures c.find-shortest.new.figures (omega (arith, c.find-shortest.auto.figures, c.deref-mut.ensures.len)) c.find-shortest.ensures)
+    (refl, held c.args.count c.args.pipes.now c.in-Ok.figures c.find_shortest.new.figures (omega (arith, c.find_shortest.auto.figures, c.deref_mut.ensures.len)) c.find_shortest.ensures)

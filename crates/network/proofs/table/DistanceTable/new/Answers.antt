@@ -8,20 +8,20 @@ use Rattle.network.proofs.table.DistanceTable.new.Goals as goal
 pub returns-in-Some : goal.returns-in-Some
 returns-in-Some c = inr (grind arith, first_front _ _ _ (first_bad_lem _ _ c.in-Some.i c.in-Some.ensures))
 
-pub returns-in-Some-first-lawless : goal.returns-in-Some-first-lawless
-returns-in-Some-first-lawless c = inr (grind arith, first_back _ _ _ (none_bad _ _ c.in-default.ensures) (first_bad_lem _ _ c.in-Some-first-lawless.i c.in-Some-first-lawless.ensures))
+pub returns-in-Some-first_lawless : goal.returns-in-Some-first_lawless
+returns-in-Some-first_lawless c = inr (grind arith, first_back _ _ _ (none_bad _ _ c.in_default.ensures) (first_bad_lem _ _ c.in-Some-first_lawless.i c.in-Some-first_lawless.ensures))
 
-pub returns-in-default-from-slice : goal.returns-in-default-from-slice
-returns-in-default-from-slice c = (grind arith, none_append _ _ (none_bad _ _ c.in-default.ensures) (none_bad _ _ c.in-default-first-lawless.ensures))
+pub returns-in_default-from_slice : goal.returns-in_default-from_slice
+returns-in_default-from_slice c = (grind arith, none_append _ _ (none_bad _ _ c.in_default.ensures) (none_bad _ _ c.in_default-first_lawless.ensures))
 
-pub invariant-of-result : goal.invariant-of-result
-invariant-of-result c =
+pub invariant_of-result : goal.invariant_of-result
+invariant_of-result c =
     let n = c.args.n in
     let size : length c.args.figures.now ≡ n * n = omega arith in
-    let laws : GridLaws n c.args.figures.now = table_laws n c.args.figures.now size c.in-default.ensures c.in-default-first-lawless.ensures in
+    let laws : GridLaws n c.args.figures.now = table_laws n c.args.figures.now size c.in_default.ensures c.in_default-first_lawless.ensures in
     let same = c.in-Ok.ensures.made in
     (omega arith, (omega arith, (omega (arith, same.1), (∣ subst (GridLaws n) (sym same.0) laws ∣₁, tt))))
 
 pub returns : goal.returns
 returns c =
-    ((grind arith, none_append _ _ (none_bad _ _ c.in-default.ensures) (none_bad _ _ c.in-default-first-lawless.ensures)), ap (grid_net c.args.n) c.in-Ok.ensures.made.0)
+    ((grind arith, none_append _ _ (none_bad _ _ c.in_default.ensures) (none_bad _ _ c.in_default-first_lawless.ensures)), ap (grid_net c.args.n) c.in-Ok.ensures.made.0)

@@ -10,4 +10,4 @@ returns c =
     let a = c.args.a in
     let b = c.args.b in
     let itself : a ≡ b → at n ws a b ≡ 0 = λ e. grind arith in
-    by_detours n ws a b c.shorter-over.result c.is-some.result c.is-some.ensures c.shorter-over.ensures itself (omega arith)
+    by_detours n ws a b c.shorter_over.result c.is_some.result c.is_some.ensures c.shorter_over.ensures itself (omega arith)
