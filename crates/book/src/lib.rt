@@ -1,4 +1,6 @@
 //! A tariff book over any distance source: its five calls, and runs of them, held to the plain book.
+#![tactic(auto)]
+
 mod closing;
 mod drawing;
 pub mod laws;

@@ -1,5 +1,7 @@
 //! A client that keeps to the protocol of prices: a release is handed on once, and what is priced or printed was approved.
 //! `misuse/` holds the ways to break it as patches of this file: none of them compiles.
+#![tactic(auto)]
+
 ghost use Rattle.std.specs.Prelude.{◌≡◌, ◌+◌, IfOk, string_bytes, MatchOption};
 ghost use Rattle.terms.specs.Faults.{book_refusal};
 ghost use Rattle.terms.specs.Refusals.{Ruled};

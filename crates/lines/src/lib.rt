@@ -1,4 +1,6 @@
 //! The sheet's language: its lines, their words, the numbers that words write, and what a line asks.
+#![tactic(auto)]
+
 mod bytes;
 pub mod faults;
 pub mod line;

@@ -1,5 +1,5 @@
 -- The first broken of the rules for each place.
-use Rattle.std.proofs.Common.{◌≡◌, ℕ, zero, suc, ◌+◌, ◌<◌, Some, None, sym, refl, ap, subst, inl, inr, arith}
+use Rattle.std.proofs.Common.{◌≡◌, ℕ, zero, suc, ◌+◌, ◌<◌, Some, None, sym, ap, subst, inl, inr, arith}
 use Rattle.terms.specs.declared.faults.SourceFault.TheVariants.{BadFigure}
 use Rattle.terms.specs.Faults.{source_refusal}
 use Rattle.terms.specs.Refusals.{FirstBroken, NoneBroken}

@@ -1,15 +1,15 @@
 -- Laying pipes on a square of figures, and the stages of the search on it.
-use Rattle.std.proofs.Common.{◌≡◌, ℕ, ◌+◌, ◌*◌, ◌<◌, ◌≤◌, min, cond, eqb, ltb, leb, ◌⊎◌, List, length, set, Some, None, Option, sym, refl, ap, ◌∙◌, subst, inl, inr, ⊎_elim, arith, length-set}
+use Rattle.std.proofs.Common.{◌≡◌, ℕ, ◌+◌, ◌*◌, ◌<◌, ◌≤◌, min, cond, eqb, ◌⊎◌, List, length, set, Some, None, Option, sym, refl, ap, ◌∙◌, subst, inl, inr, ⊎_elim, arith, length-set}
 use Rattle.std.proofs.lemmas.Bool.Decides.{nat_tests, eqb_tells}
 use Rattle.network.specs.declared.pipe.Pipe.{Pipe}
-use Rattle.network.specs.Limits.{bottom_stations, most_stations, longest, none_figure}
+use Rattle.network.specs.Limits.{bottom_stations, longest, none_figure}
 use Rattle.network.specs.Rules.{First}
 use Rattle.network.specs.Routes.{Route, LeastOf, Shortest}
 use Rattle.network.specs.Routes.Route.{stay, go}
 use Rattle.network.specs.Grid.{at, distance_of, grid_net, Square, GridLaws}
 use Rattle.network.specs.Search.{through, laid}
 use Rattle.network.specs.Pipes.{pipe_at, Lies, Joins, GoodPipe, GoodPipes, LeastGrid}
-use Rattle.network.specs.Nets.{Within, never, below_or_not, inside_in, inside_out}
+use Rattle.network.specs.Nets.{Within, below_or_not, inside_in, inside_out}
 use Rattle.network.proofs.Roads.{first_in, last_in, shortest_lawful}
 use Rattle.network.proofs.Stages.{Stage, relaxed, next, at_last}
 use Rattle.network.specs.Cells.{written}

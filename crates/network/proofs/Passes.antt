@@ -1,8 +1,6 @@
 -- One pass over all cells, in place: neither row k nor column k changes on the way.
-use Rattle.std.proofs.Common.{◌≡◌, ℕ, ◌+◌, ◌*◌, ◌<◌, ◌≤◌, min, cond, eqb, ltb, leb, List, set, sym, ap, ◌∙◌, subst, arith}
+use Rattle.std.proofs.Common.{◌≡◌, ℕ, ◌+◌, ◌*◌, ◌<◌, ◌≤◌, cond, eqb, ltb, List, set, sym, ap, ◌∙◌, subst, arith}
 use Rattle.std.proofs.lemmas.Bool.Decides.{nat_tests}
-use Rattle.network.specs.Limits.{longest}
-use Rattle.network.specs.Net.{plus, least, capped}
 use Rattle.network.specs.Grid.{at, distance_of, Square}
 use Rattle.network.specs.Search.{shortcut, through}
 use Rattle.network.specs.Cells.{written}

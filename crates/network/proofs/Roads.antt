@@ -1,8 +1,8 @@
 -- Routes, and what follows where the distances are the least lengths over them.
-use Rattle.std.proofs.Common.{◌≡◌, ℕ, ◌+◌, ◌<◌, ◌≤◌, min, ◌⊎◌, Some, None, Option, sym, refl, ap, ◌∙◌, subst, ⊎_elim, arith}
+use Rattle.std.proofs.Common.{◌≡◌, ℕ, ◌+◌, ◌<◌, ◌≤◌, min, Some, None, Option, sym, refl, ap, ◌∙◌, subst, ⊎_elim, arith}
 use Rattle.network.specs.Limits.{most_stations, longest}
 use Rattle.network.specs.Net.{Net, Lawful}
-use Rattle.network.specs.Routes.{Route, LeastLength, LeastOf, Shortest, OneShortest}
+use Rattle.network.specs.Routes.{Route, LeastOf, Shortest, OneShortest}
 use Rattle.network.specs.Routes.Route.{stay, go}
 use Rattle.network.specs.Nets.{Within, at_zero, never}
 

@@ -1,5 +1,5 @@
 -- The stages of the search for shortest routes.
-use Rattle.std.proofs.Common.{◌≡◌, ℕ, ◌+◌, ◌<◌, ◌≤◌, min, ◌⊎◌, Some, None, Option, ap, ◌∙◌, subst, ⊎_elim, arith}
+use Rattle.std.proofs.Common.{◌≡◌, ℕ, ◌+◌, ◌<◌, ◌≤◌, min, ◌⊎◌, Some, None, Option, subst, ⊎_elim, arith}
 use Rattle.network.specs.Limits.{longest}
 use Rattle.network.specs.Net.{plus, least, capped}
 use Rattle.network.specs.Routes.{Route, LeastOf}

@@ -1,7 +1,7 @@
 -- A table that breaks no rule keeps the laws.
-use Rattle.std.proofs.Common.{◌≡◌, ℕ, ◌+◌, ◌*◌, ◌/◌, ◌%◌, ◌<◌, ◌≤◌, Bool, ◌⊎◌, List, length, get_or, is_some, Some, None, MatchBool, Option, sym, refl, subst, inl, inr, ⊎_elim, arith}
-use Rattle.std.proofs.lemmas.Nat.{mul-add-lt, div-mul-add, mod-mul-add}
-use Rattle.network.specs.Limits.{longest, none_figure}
+use Rattle.std.proofs.Common.{◌≡◌, ℕ, ◌+◌, ◌*◌, ◌/◌, ◌%◌, ◌<◌, ◌≤◌, Bool, ◌⊎◌, List, length, get_or, is_some, Some, None, MatchBool, Option, sym, refl, subst, ⊎_elim, arith}
+use Rattle.std.proofs.lemmas.Nat.{div-mul-add, mod-mul-add}
+use Rattle.network.specs.Limits.{longest}
 use Rattle.network.specs.Rules.{First}
 use Rattle.network.specs.Grid.{at, GridLaws}
 use Rattle.network.specs.Table.{NoFigure, Beaten, BreaksLaw}

@@ -1,5 +1,5 @@
 -- The laws of a square of figures are those of the net that it means.
-use Rattle.std.specs.Prelude.{◌≡◌, ℕ, ◌+◌, ◌*◌, ◌/◌, ◌%◌, ◌<◌, ◌≤◌, cond, ◌⊎◌, List, Some, None, Option, slice_index, refl}
+use Rattle.std.specs.Prelude.{◌≡◌, ℕ, ◌+◌, ◌*◌, ◌/◌, ◌%◌, ◌<◌, ◌≤◌, ◌⊎◌, List, Some, None, Option, slice_index, refl}
 use Rattle.std.proofs.Common.{sym, ap, ◌∙◌, inl, inr, ⊎_elim, arith}
 use Rattle.std.proofs.Math.Logic.{∥∥₁_elim}
 use Rattle.std.proofs.Math.Bridge.{le_prop}
@@ -7,7 +7,7 @@ use base.Stored.{Coded-set, coded_ℕ}
 use Rattle.std.proofs.lemmas.Bool.Decides.{nat_tests}
 use Rattle.std.proofs.lemmas.Nat.{div-mul-add, mod-mul-add}
 use Rattle.network.specs.Limits.{bottom_stations, longest}
-use Rattle.network.specs.Net.{Net, Lawful, inside}
+use Rattle.network.specs.Net.{Net, Lawful}
 use Rattle.network.specs.Grid.{at, distance_of, figure_of, grid_net, GridLaws}
 use Rattle.network.specs.Nets.{below_or_not, inside_in, inside_out, inside_some}
 use Rattle.network.specs.Cells.{cell_in}

@@ -1,10 +1,10 @@
 -- The laws of a pairing of two lawful nets.
-use Rattle.std.specs.Prelude.{◌≡◌, ℕ, ◌+◌, ◌-◌, ◌<◌, ◌≤◌, min, cond, ltb, ◌⊎◌, Some, None, Option}
+use Rattle.std.specs.Prelude.{◌≡◌, ℕ, ◌+◌, ◌-◌, ◌<◌, ◌≤◌, min, ◌⊎◌, Some, None, Option}
 use Rattle.std.proofs.Math.Path.{sym}
 use Rattle.std.proofs.Common.{ap, ◌∙◌, inl, inr, ⊎_elim, arith}
 use Rattle.std.proofs.lemmas.Bool.Decides.{nat_tests}
 use Rattle.network.specs.Limits.{most_stations, longest}
-use Rattle.network.specs.Net.{Net, Lawful, inside, plus, capped}
+use Rattle.network.specs.Net.{Net, Lawful, plus, capped}
 use Rattle.network.specs.Pairing.{across, paired, pairing_net, cut_pairing}
 use Rattle.network.specs.Nets.{below_or_not, inside_in, inside_out, inside_some, Within, exact, plus_in, plus_some, plus_none, capped_in, capped_some}
 

@@ -1,9 +1,9 @@
 -- The laws of a trunk.
-use Rattle.std.specs.Prelude.{◌≡◌, ℕ, ◌+◌, ◌-◌, ◌<◌, ◌≤◌, cond, ◌⊎◌, List, length, Some, None, slice_index}
+use Rattle.std.specs.Prelude.{◌≡◌, ℕ, ◌+◌, ◌<◌, ◌≤◌, List, length, Some, slice_index}
 use Rattle.std.proofs.Common.{ap, ◌∙◌, arith}
 use Rattle.std.proofs.lemmas.Bool.Decides.{nat_tests}
 use Rattle.network.specs.Limits.{bottom_stations, longest}
-use Rattle.network.specs.Net.{Net, Lawful}
+use Rattle.network.specs.Net.{Lawful}
 use Rattle.network.specs.Trunk.{gap, trunk_net}
 use Rattle.network.specs.Nets.{inside_in, inside_out, inside_some, some_is}
 

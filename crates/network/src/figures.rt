@@ -21,7 +21,7 @@ fn figure(distance: Option<Km>) -> u16
 
 // The distances between all stations, row by row. They mean what the source means.
 pub fn figures_of<S: Source>(heap: Global, source: &S) -> Result<Vec<u16>, AllocError>
-    ensures { IfOk result (λ v. grid_net (net source.now).stations v.items ≡ net source.now) }
+    ensures { IfOk result (λ v. grid_net (S.net source.now).stations v.items ≡ S.net source.now) }
 {
     let n = source.stations();
     let mut figures = Vec::new(heap);

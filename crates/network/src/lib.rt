@@ -1,4 +1,6 @@
 //! Distance sources: what gives the stations of a network and how far two of them are apart.
+#![tactic(auto)]
+
 mod distances;
 pub mod figures;
 mod grid;

@@ -1,5 +1,5 @@
 -- What the tariffs of a side collect.
-use Rattle.std.proofs.Common.{◌≡◌, ℕ, ◌+◌, ◌-◌, ◌*◌, ◌/◌, ◌<◌, ◌≤◌, cond, eqb, Some, None, Option, ap, ◌∙◌, mul-zero, mul-div_cancel, arith}
+use Rattle.std.proofs.Common.{◌≡◌, ℕ, ◌+◌, ◌*◌, ◌/◌, ◌<◌, eqb, Some, None, ap, ◌∙◌, mul-zero, mul-div_cancel, arith}
 use native.Mathlib.Nat.{zero-div}
 use Rattle.std.proofs.lemmas.Bool.{cond_both, eqb-true, eqb-false}
 use Rattle.terms.specs.declared.measures.Lots.{Lots}

@@ -1,5 +1,5 @@
 -- What is promised of a draft follows from what is promised of its sides.
-use Rattle.std.proofs.Common.{◌≡◌, ℕ, ◌+◌, ◌≤◌, arith}
+use Rattle.std.proofs.Common.{◌≡◌, ◌+◌, ◌≤◌, arith}
 use Rattle.pricing.specs.declared.figures.TariffFigures.{TariffFigures}
 use Rattle.pricing.specs.Limits.{whole_relief}
 use Rattle.pricing.specs.Shares.{HasShares}

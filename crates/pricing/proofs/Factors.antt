@@ -1,12 +1,12 @@
 -- The exact shares are the amount times the final weighting factors.
-use Rattle.std.proofs.Common.{◌≡◌, ℕ, ◌+◌, ◌-◌, ◌*◌, ◌<◌, ◌≤◌, sym, refl, ap, ◌∙◌, mul-le-mul, mul-pos, one-mul, arith}
+use Rattle.std.proofs.Common.{◌≡◌, ℕ, ◌+◌, ◌-◌, ◌*◌, ◌<◌, ◌≤◌, refl, ap, mul-le-mul, mul-pos, one-mul, arith}
 use Rattle.pricing.specs.declared.basis.Basis.{Basis}
 use Rattle.pricing.specs.Limits.{whole_relief}
 use Rattle.pricing.specs.Fractions.{whole, times, Same}
 use Rattle.pricing.specs.Shares.{weight, others, HasShares}
 use Rattle.pricing.specs.Exact.{exact_storage, exact_other}
-use Rattle.pricing.specs.Methodology.{Methodical, final_storage, final_other}
-use Rattle.pricing.proofs.Nearness.{scale_pos, exact_le}
+use Rattle.pricing.specs.Methodology.{Methodical, final_other}
+use Rattle.pricing.proofs.Nearness.{scale_pos}
 
 storage_equal : (A k s W n : ℕ) → n ≡ k → A * k * s * (1 * (10000 * W)) ≡ A * (n * s) * (10000 * W)
 storage_equal A k s W n e = rw e (omega arith)

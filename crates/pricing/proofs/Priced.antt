@@ -1,5 +1,5 @@
 -- The laws of short prices, in a year of any length.
-use Rattle.std.proofs.Common.{◌≡◌, ℕ, ◌+◌, ◌*◌, ◌<◌, ◌≤◌, ap, ◌∙◌, inl, inr, mul-le-mul_right, arith}
+use Rattle.std.proofs.Common.{◌≡◌, ℕ, ◌*◌, ◌<◌, inl, inr, mul-le-mul_right, arith}
 use Rattle.std.proofs.lemmas.Bool.{cases_order}
 use Rattle.terms.specs.Rounding.{nearest, Within}
 use Rattle.terms.proofs.Halves.{nearest_within}
@@ -8,7 +8,7 @@ use Rattle.pricing.specs.declared.products.Term.TheVariants.{Year, Quarter, Mont
 use Rattle.pricing.specs.declared.products.Product.{Product}
 use Rattle.pricing.specs.Limits.{multiplier_one}
 use Rattle.pricing.specs.Products.{runs_in, year_in}
-use Rattle.pricing.specs.Prices.{price_in, PriceLaw}
+use Rattle.pricing.specs.Prices.{PriceLaw}
 
 -- only a whole number lies within half of itself
 within_whole : (t d q : ℕ) → 0 < d → Within (t * d) d q → q ≡ t

@@ -1,5 +1,5 @@
 -- What the two steps of a side's split give is what its shares are defined to be, and keeps what is promised of them.
-use Rattle.std.proofs.Common.{◌≡◌, ℕ, ◌+◌, ◌-◌, ◌≤◌, ap, ◌∙◌, arith}
+use Rattle.std.proofs.Common.{◌≡◌, ℕ, ◌+◌, ◌-◌, ◌≤◌, ap, ◌∙◌}
 use Rattle.pricing.specs.declared.basis.Basis.{Basis}
 use Rattle.pricing.specs.declared.figures.SideLots.{SideLots}
 use Rattle.pricing.specs.Limits.{whole_relief}

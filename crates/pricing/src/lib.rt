@@ -1,4 +1,6 @@
 //! Shares of the allowed revenue, tariffs, approval and short prices.
+#![tactic(auto)]
+
 pub mod amount;
 pub mod basis;
 pub mod decision;

@@ -1,14 +1,13 @@
 -- Closings one after another balance.
-use Rattle.std.proofs.Common.{◌≡◌, ℕ, ◌+◌, ◌*◌, ◌/◌, ◌<◌, ◌≤◌, ◌⊎◌, List, [], ◌∷◌, ◌++◌, ℤ, pos, ◌+ℤ◌, nat_abs, Ok, Err, Result, sym, refl, subst, inl, inr, arith}
-use Rattle.std.specs.List.{AllByRecursion as All}
+use Rattle.std.proofs.Common.{◌≡◌, ℕ, ◌≤◌, ◌⊎◌, List, [], ◌∷◌, ◌++◌, ℤ, ◌+ℤ◌, nat_abs, Ok, Err, Result, sym, refl, subst, inl, inr, arith}
 use Rattle.std.proofs.ByRecursion.{All-push}
 use Rattle.std.proofs.lemmas.Int.{ints, clamps}
 use Rattle.terms.specs.Faults.{book_refusal}
-use Rattle.terms.specs.Refusals.{NoneBroken, Ruled}
+use Rattle.terms.specs.Refusals.{Ruled}
 use Rattle.terms.specs.declared.faults.BookFault.{BookFault}
 use Rattle.revenue.specs.declared.figures.Figures.{Figures}
 use Rattle.revenue.specs.declared.figures.Closing.{Closing}
-use Rattle.revenue.specs.Closings.{limit_of, held, taken_of, rest_of, closing_of, base_of, due_of}
+use Rattle.revenue.specs.Closings.{limit_of, held, taken_of, closing_of, base_of, due_of}
 use Rattle.revenue.specs.Checks.{close_rules}
 use Rattle.revenue.specs.Law.{Accepted, none, next, corrections, amounts, Limited, Balanced, Continues}
 

@@ -1,5 +1,5 @@
 -- What holds of all closings of a book together.
-use Rattle.std.specs.Prelude.{◌≡◌, ℕ, ◌+◌, ◌*◌, ◌<◌, ◌≤◌, List, [], ◌∷◌, ◌++◌, ℤ, pos, ◌+ℤ◌, Ok, Err, Result, ◌≢◌, unsigned_abs}
+use Rattle.std.specs.Prelude.{◌≡◌, ◌+◌, ◌*◌, ◌<◌, ◌≤◌, List, [], ◌∷◌, ◌++◌, ℤ, pos, ◌+ℤ◌, Ok, Err, Result, ◌≢◌, unsigned_abs}
 use Rattle.std.specs.List.{AllByRecursion as All}
 use Rattle.terms.specs.Refusals.{NoneBroken}
 use Rattle.terms.specs.declared.faults.BookFault.{BookFault}

@@ -1,2 +1,4 @@
 //! The distances of any source, as lines of text.
+#![tactic(auto)]
+
 pub mod distances;

@@ -1,5 +1,7 @@
 // Runs a sheet: the file that the first argument names, or else standard input.
 // `--distances`, `--tariffs` and `--book` show built-in figures instead.
+#![tactic(auto)]
+
 mod examples;
 mod story;
 

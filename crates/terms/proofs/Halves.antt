@@ -1,5 +1,5 @@
 -- The laws of division to the nearest whole. What callers use of `nearest` is here.
-use Rattle.std.proofs.Common.{◌≡◌, ℕ, ◌+◌, ◌-◌, ◌*◌, ◌/◌, ◌%◌, ◌<◌, ◌≤◌, cond, ltb, ap, inl, inr, mul-le-mul_right, mod-lt, mul-le-mul_left, div-le_self, arith}
+use Rattle.std.proofs.Common.{◌≡◌, ℕ, ◌+◌, ◌*◌, ◌/◌, ◌%◌, ◌<◌, ◌≤◌, ltb, ap, inl, inr, mul-le-mul_right, mod-lt, mul-le-mul_left, div-le_self, arith}
 use native.Mathlib.Nat.{div-add-mod}
 use Rattle.std.proofs.lemmas.Bool.{cond_both, ltb-true, ltb-false, cases_order, cases_lt}
 use Rattle.terms.specs.Rounding.{carry, nearest, Within, HalfUp}

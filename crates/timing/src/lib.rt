@@ -1,4 +1,6 @@
 //! Work for the benchmarks, exported to C. A `Global` takes no bytes, so a C caller passes nothing for it.
+#![tactic(auto)]
+
 ghost use Rattle.std.specs.Prelude.{◌*◌, ◌≤◌};
 ghost use Rattle.network.specs.Limits.{longest};
 

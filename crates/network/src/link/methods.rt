@@ -15,8 +15,8 @@ use terms::measures::Km;
 impl<S: Source> Link<S> {
     // A refusal hands `below` back.
     pub fn new(below: S, p: u32, q: u32, length: Km) -> Result<Link<S>, RefusedLayer<S>>
-        ensures made { Layered (link_rules (net below) p q length.0) below (λ t. of_link net t ≡ link_net (net below) p q length.0) result }
-        ensures law { LinkLaw (net below) }
+        ensures made { Layered (link_rules (S.net below) p q length.0) below (λ t. of_link S.net t ≡ link_net (S.net below) p q length.0) result }
+        ensures law { LinkLaw (S.net below) }
     {
         let n = below.stations();
         if p >= n || q >= n {
@@ -41,9 +41,9 @@ impl<S: Source> Link<S> {
 }
 
 impl<S: Source> Source for Link<S> {
-    ghost net = { of_link S.Source.net };
+    ghost net = { of_link S.net };
 
-    ghost lawful = { λ s. link_lawful (S.Source.net s.below) (S.Source.lawful s.below) s.p s.q s.length.0 };
+    ghost lawful = { λ s. link_lawful (S.net s.below) (S.lawful s.below) s.p s.q s.length.0 };
 
     fn stations(&self) -> u32 {
         self.below.stations()

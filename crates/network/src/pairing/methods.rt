@@ -16,7 +16,7 @@ use terms::measures::Km;
 impl<F: Source, G: Source> Pairing<F, G> {
     // The first keeps its numbers, and the second's follow. A refusal hands both back.
     pub fn new(first: F, second: G, x: u32, y: u32) -> Result<Pairing<F, G>, RefusedLayer<(F, G)>>
-        ensures { Layered (pairing_rules (F.Source.net first) (G.Source.net second) x y) (first, second) (λ t. of_pairing F.Source.net G.Source.net t ≡ pairing_net (F.Source.net first) (G.Source.net second) x y) result }
+        ensures { Layered (pairing_rules (F.net first) (G.net second) x y) (first, second) (λ t. of_pairing F.net G.net t ≡ pairing_net (F.net first) (G.net second) x y) result }
     {
         let n = first.stations();
         let m = second.stations();
@@ -42,7 +42,7 @@ impl<F: Source, G: Source> Pairing<F, G> {
 
     // From a of the first to b of the second.
     fn across(&self, a: u32, b: u32) -> Option<Km>
-        ensures { kms result ≡ across (F.Source.net self.now.first) (G.Source.net self.now.second) self.now.x self.now.y a b }
+        ensures { kms result ≡ across (F.net self.now.first) (G.net self.now.second) self.now.x self.now.y a b }
     {
         sum(
             self.first.distance(a, self.x),
@@ -52,9 +52,9 @@ impl<F: Source, G: Source> Pairing<F, G> {
 }
 
 impl<F: Source, G: Source> Source for Pairing<F, G> {
-    ghost net = { of_pairing F.Source.net G.Source.net };
+    ghost net = { of_pairing F.net G.net };
 
-    ghost lawful = { λ s. cut_lawful _ _ (F.Source.lawful s.first) (G.Source.lawful s.second) s.x s.y };
+    ghost lawful = { λ s. cut_lawful _ _ (F.lawful s.first) (G.lawful s.second) s.x s.y };
 
     fn stations(&self) -> u32 {
         (self.first.stations() + self.second.stations()).min(MOST_STATIONS)

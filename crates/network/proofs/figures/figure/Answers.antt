@@ -1,6 +1,5 @@
-use Rattle.std.proofs.Common.{◌≡◌, ◌≤◌, Some, arith, rules}
+use Rattle.std.proofs.Common.{◌≤◌, rules}
 use Rattle.network.specs.Limits.{longest}
-use Rattle.network.specs.Distances.{kms}
 use Rattle.network.proofs.figures.figure.Goals as goal
 
 pub overflow_cast-result : goal.overflow_cast-result

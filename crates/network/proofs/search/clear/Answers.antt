@@ -1,7 +1,7 @@
 use Rattle.std.proofs.Common.{◌≡◌, ℕ, ◌+◌, ◌*◌, ◌<◌, cond, eqb, ltb, ◌≢◌, length, ◌∙◌, arith, length-set, get_or-set_other, get_or-set_same, below_more}
 use Rattle.std.proofs.lemmas.Bool.Decides.{nat_tests}
 use Rattle.network.specs.Limits.{none_figure}
-use Rattle.network.specs.Grid.{at, Square}
+use Rattle.network.specs.Grid.{at}
 use Rattle.network.specs.Cells.{cell_in, written}
 use Rattle.network.proofs.search.clear.Goals as goal
 

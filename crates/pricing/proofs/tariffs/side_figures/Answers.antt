@@ -1,7 +1,6 @@
-use Rattle.std.proofs.Common.{◌≡◌, sym, ap, ◌∙◌, subst, arith, rules}
+use Rattle.std.proofs.Common.{◌≡◌, sym, ap, ◌∙◌, subst, arith}
 use Rattle.pricing.specs.declared.figures.ElementFigures.{ElementFigures}
 use Rattle.pricing.specs.declared.figures.SideFigures.{SideFigures}
-use Rattle.pricing.specs.Shares.{main_share, other_share, storage_share}
 use Rattle.pricing.specs.Tariffs.{element_of, side_of, SidePromised}
 use Rattle.pricing.proofs.Sides.{main_is, other_is, side_promised}
 use Rattle.pricing.proofs.tariffs.side_figures.Goals as goal

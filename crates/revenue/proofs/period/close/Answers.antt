@@ -1,8 +1,19 @@
-use Rattle.std.proofs.Common.{◌≡◌, w64, SFits, rules}
+use Rattle.std.proofs.Common.{◌∷◌, ◌<◌, w64, SFits, rules}
 use Rattle.std.proofs.lemmas.Int.{to_z-of_z}
+use Rattle.terms.specs.Faults.{book_refusal}
+use Rattle.terms.specs.Refusals.{rule}
+use Rattle.terms.specs.declared.faults.BookFault.TheVariants.{OutOfRange, BaseBelowZero}
+use Rattle.revenue.specs.Closings.{costs, revenues, base_of, due_of}
+use Rattle.revenue.specs.Checks.{figure_rules, settling_rules}
+use Rattle.terms.proofs.Rulings.{first_front}
 use Rattle.revenue.proofs.Balances.{continues}
 use Rattle.revenue.proofs.Closes.{closed}
 use Rattle.revenue.proofs.period.close.Goals as goal
+
+pub returns-in-Some-clause-ruled : goal.returns-in-Some-clause-ruled
+returns-in-Some-clause-ruled c =
+    let f = c.args.figures in
+    first_front (figure_rules f) (rule (book_refusal BaseBelowZero) (costs f < revenues f) ∷ settling_rules (base_of f) (due_of c.args.carried.amount.0 f)) (book_refusal (OutOfRange c.in-Some.figure)) c.in-Some.ensures.ruled
 
 pub returns : goal.returns
 returns c =

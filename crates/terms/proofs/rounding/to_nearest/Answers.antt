@@ -1,4 +1,4 @@
-use Rattle.std.proofs.Common.{◌≡◌, ℕ, ◌+◌, ◌/◌, ◌%◌, ◌<◌, ◌≤◌, sym, ap, ◌∙◌, subst, arith, rules}
+use Rattle.std.proofs.Common.{◌≡◌, ℕ, ◌+◌, ◌/◌, ◌%◌, ◌<◌, ◌≤◌, sym, ap, ◌∙◌, subst, rules}
 use Rattle.terms.specs.Rounding.{carry, nearest, Within, HalfUp}
 use Rattle.terms.proofs.Halves.{nearest_le, nearest_within, nearest_half_up}
 use Rattle.terms.proofs.rounding.to_nearest.Goals as goal

@@ -1,6 +1,5 @@
-use Rattle.std.proofs.Common.{◌≡◌, ℕ, List, vec_items, sym, ap, ◌∙◌, subst, inr, arith}
+use Rattle.std.proofs.Common.{◌≡◌, ℕ, List, vec_items, sym, ap, subst, inr, arith}
 use Rattle.network.specs.declared.pipe.Pipe.{Pipe}
-use Rattle.network.specs.Net.{Net}
 use Rattle.network.specs.Routes.{Shortest}
 use Rattle.network.specs.Grid.{grid_net}
 use Rattle.network.specs.Pipes.{Joins, GoodPipes, LeastGrid}
@@ -31,10 +30,11 @@ invariant_of-result c =
     let ps = c.args.pipes.now in
     let t = c.in-Some-distances_along.table in
     let made = c.in-Some-distances_along.ensures in
-    let same = c.in-Ok.ensures.made.0 in (
-      ∣ kept_good n t.count ps (vec_items c.in-Ok.pipes) made.0 same (goods_of n ps c.in_default.ensures) ∣₁,
-      (∣ kept_least n t.count ps (vec_items c.in-Ok.pipes) (vec_items t.figures) made.0 same made.1 ∣₁, tt),
-    )
+    let same = c.in-Ok.ensures.items in
+    record {
+      good = ∣ kept_good n t.count ps (vec_items c.in-Ok.pipes) made.0 same (goods_of n ps c.in_default.ensures) ∣₁;
+      least = ∣ kept_least n t.count ps (vec_items c.in-Ok.pipes) (vec_items t.figures) made.0 same made.1 ∣₁;
+    }
 
 pub returns : goal.returns
 returns c =

@@ -16,7 +16,7 @@ invariant_of-result c =
     let n = c.args.count in
     let ps = c.args.pipes.now in
     let least = held n ps c.in-Ok.figures c.find_shortest.new.figures (omega (arith, c.find_shortest.auto.figures, c.deref_mut.ensures.len)) c.find_shortest.ensures in
-    (omega arith, (omega arith, (c.in-Ok.ensures.made.1, (∣ least_laws n ps c.requires.1.1 _ least (omega arith) (omega arith) ∣₁, tt))))
+    record { some = omega arith; few = omega arith; size = c.in-Ok.ensures.len; laws = ∣ least_laws n ps c.requires.1.1 _ least (omega arith) (omega arith) ∣₁ }
 
 pub returns : goal.returns
 returns c =

@@ -1,4 +1,4 @@
-use Rattle.std.proofs.Common.{◌≡◌, ℕ, ◌*◌, List, length, sym, ap, subst, inl, inr, ⊎_elim, arith}
+use Rattle.std.proofs.Common.{◌≡◌, ◌*◌, length, sym, ap, subst, inr, arith}
 use Rattle.network.specs.Grid.{grid_net, GridLaws}
 use Rattle.terms.proofs.Rulings.{none_append, first_front, first_back}
 use Rattle.network.proofs.Firsts.{none_bad, first_bad_lem}
@@ -19,9 +19,9 @@ invariant_of-result c =
     let n = c.args.n in
     let size : length c.args.figures.now ≡ n * n = omega arith in
     let laws : GridLaws n c.args.figures.now = table_laws n c.args.figures.now size c.in_default.ensures c.in_default-first_lawless.ensures in
-    let same = c.in-Ok.ensures.made in
-    (omega arith, (omega arith, (omega (arith, same.1), (∣ subst (GridLaws n) (sym same.0) laws ∣₁, tt))))
+    let same = c.in-Ok.ensures in
+    record { some = omega arith; few = omega arith; size = omega (arith, same.len); laws = ∣ subst (GridLaws n) (sym same.items) laws ∣₁ }
 
 pub returns : goal.returns
 returns c =
-    ((grind arith, none_append _ _ (none_bad _ _ c.in_default.ensures) (none_bad _ _ c.in_default-first_lawless.ensures)), ap (grid_net c.args.n) c.in-Ok.ensures.made.0)
+    ((grind arith, none_append _ _ (none_bad _ _ c.in_default.ensures) (none_bad _ _ c.in_default-first_lawless.ensures)), ap (grid_net c.args.n) c.in-Ok.ensures.items)

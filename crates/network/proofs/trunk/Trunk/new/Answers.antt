@@ -11,4 +11,4 @@ returns-in_default-from_slice c = (⊎_elim (λ h. omega arith) (λ h. omega ari
 
 pub returns : goal.returns
 returns c =
-    ((⊎_elim (λ h. omega arith) (λ h. omega arith), none_bad _ _ c.in_default.ensures), ap trunk_net c.in-Ok.ensures.made.0)
+    ((⊎_elim (λ h. omega arith) (λ h. omega arith), none_bad _ _ c.in_default.ensures), ap trunk_net c.in-Ok.ensures.items)
