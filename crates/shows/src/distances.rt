@@ -8,7 +8,7 @@ use std::alloc::{AllocError, Global};
 use terms::measures::Km;
 
 fn put_distance(heap: Global, out: &mut String, distance: Option<Km>) -> Result<(), AllocError>
-    ensures { OnOk result (string_bytes out.new ≡ string_bytes out.old ++ (codes " " ++ distance-text (kms distance))) }
+    ensures { OnOk result (string_bytes out.new ≡ string_bytes out.old ++ (codes " " ++ distance_text (kms distance))) }
 {
     let text = match distance {
         Some(d) => {
@@ -27,7 +27,7 @@ fn put_distances<S: Source>(
     source: &S,
     a: u32,
 ) -> Result<(), AllocError>
-    ensures { OnOk result (string_bytes out.new ≡ string_bytes out.old ++ cells ((net source.now).distance a) (net source.now).stations) }
+    ensures { OnOk result (string_bytes out.new ≡ string_bytes out.old ++ cells ((S.net source.now).distance a) (S.net source.now).stations) }
 {
     let stations = source.stations();
     for b in 0..stations {
@@ -37,7 +37,7 @@ fn put_distances<S: Source>(
 }
 
 fn put_row<S: Source>(heap: Global, out: &mut String, source: &S, a: u32) -> Result<(), AllocError>
-    ensures { OnOk result (string_bytes out.new ≡ string_bytes out.old ++ row_text (net source.now) a) }
+    ensures { OnOk result (string_bytes out.new ≡ string_bytes out.old ++ row_text (S.net source.now) a) }
 {
     let head = format!(in heap; "{a}:")?;
     out.push_str(head.as_str())?;
@@ -48,7 +48,7 @@ fn put_row<S: Source>(heap: Global, out: &mut String, source: &S, a: u32) -> Res
 
 // The distances between all stations of a source.
 pub fn distance_table<S: Source>(heap: Global, source: &S) -> Result<String, AllocError>
-    ensures { IfOk result (λ s. string_bytes s ≡ table_text (net source.now)) }
+    ensures { IfOk result (λ s. string_bytes s ≡ table_text (S.net source.now)) }
 {
     let mut out = String::new(heap);
     let stations = source.stations();

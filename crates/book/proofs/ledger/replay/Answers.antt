@@ -28,7 +28,7 @@ loop-call-preserved g c =
     let o = c.handle-outcome.result in (
       c.handle-outcome.ensures.same ∙ inv.0,
       search rules,
-      subst (λ os. Stands (net from) (paired (take (i + 1) calls) os) t') (sym c.in-ok-push.ensures.items)
+      subst (λ os. Stands (net from) (paired (take (i + 1) calls) os) t') (sym c.in_ok-push.ensures.items)
           (stands_more (net from) calls i past (vec_items c.loop-call.outcomes) o t t' c.loop-call-test.true (search rules) inv.2
           (subst (λ s. Extends (net s) t (one (get_or calls i past) o) t') inv.0 c.handle-outcome.ensures.law)),
     )

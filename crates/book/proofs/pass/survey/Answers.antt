@@ -6,7 +6,7 @@ use Rattle.book.proofs.Passing.{met_more, met_none}
 use Rattle.book.proofs.pass.survey.Goals as goal
 
 pub loop-point-init : goal.loop-point-init
-loop-point-init g c = subst (Met _ c.args.station _) (sym c.start-so-far.ensures) (met_none _ _)
+loop-point-init g c = subst (Met _ c.args.station _) (sym c.start-so_far.ensures) (met_none _ _)
 
 pub loop-point-preserved : goal.loop-point-preserved
 loop-point-preserved g c =
@@ -14,8 +14,8 @@ loop-point-preserved g c =
     let points = c.args.points.now in
     let i = c.loop-point.point-index in
     let w : c.loop-point.point-index < length c.args.points.now = search rules in
-    subst (λ rs. Met net c.args.station rs c.meet-so-far.result) (sym (take_more points i blank w))
-    (met_more net c.args.station (take i points) (get_or points i blank) c.loop-point.so_far c.meet-so-far.result _ c.meet-so-far.ensures c.distance.ensures c.loop-point.invariant)
+    subst (λ rs. Met net c.args.station rs c.meet-so_far.result) (sym (take_more points i blank w))
+    (met_more net c.args.station (take i points) (get_or points i blank) c.loop-point.so_far c.meet-so_far.result _ c.meet-so_far.ensures c.distance.ensures c.loop-point.invariant)
 
 pub returns : goal.returns
 returns g c =

@@ -10,14 +10,14 @@ use Rattle.book.proofs.weighing.six_weights.Goals as goal
 pub loop-entry-init : goal.loop-entry-init
 loop-entry-init g c =
     let net = g.S.Source.net c.args.source.now in (
-      c.nothing-of-entries.ensures,
-      subst (λ s. Within s 0) (sym c.nothing-of-entries.ensures) within_none,
-      c.nothing-of-exits.ensures ∙ none_other net Exit c.args.exits.now,
-      subst (λ s. Within s 0) (sym c.nothing-of-exits.ensures) within_none,
+      c.nothing-of_entries.ensures,
+      subst (λ s. Within s 0) (sym c.nothing-of_entries.ensures) within_none,
+      c.nothing-of_exits.ensures ∙ none_other net Exit c.args.exits.now,
+      subst (λ s. Within s 0) (sym c.nothing-of_exits.ensures) within_none,
     )
 
-pub weigh-against-reach-requires : goal.weigh-against-reach-requires
-weigh-against-reach-requires g c =
+pub weigh_against-reach-requires : goal.weigh_against-reach-requires
+weigh_against-reach-requires g c =
     let entries = c.args.entries.now in
     let i = c.loop-entry.entry-index in
     let w : c.loop-entry.entry-index < length c.args.entries.now = search rules in
@@ -26,25 +26,25 @@ weigh-against-reach-requires g c =
     let o = sum_of_at (λ r. r.lots.0) entries i blank w in
     record { few = within_le _ (most_reach * record_lots (take i entries)) _ (omega (arith, t, h)) c.loop-entry.invariant.3; lots = omega (arith, o, h); light = c.requires.exits }
 
-pub overflow-mul-entry : goal.overflow-mul-entry
-overflow-mul-entry g c =
+pub overflow_mul-entry : goal.overflow_mul-entry
+overflow_mul-entry g c =
     let entries = c.args.entries.now in
     let i = c.loop-entry.entry-index in
     let w : c.loop-entry.entry-index < length c.args.entries.now = search rules in
     let h = c.requires.entries in
     let o = sum_of_at (λ r. r.lots.0) entries i blank w in
-    let q = times_le (get_or entries i blank).lots.0 c.weigh-against-reach.result.0 most_reach c.weigh-against-reach.ensures.short in
+    let q = times_le (get_or entries i blank).lots.0 c.weigh_against-reach.result.0 most_reach c.weigh_against-reach.ensures.short in
     search (rules, q)
 
-pub added-of-entries-requires : goal.added-of-entries-requires
-added-of-entries-requires g c =
+pub added-of_entries-requires : goal.added-of_entries-requires
+added-of_entries-requires g c =
     let entries = c.args.entries.now in
     let i = c.loop-entry.entry-index in
     let w : c.loop-entry.entry-index < length c.args.entries.now = search rules in
     let h = c.requires.entries in
     let t = sum_of_take (λ r. r.lots.0) entries i in
     let o = sum_of_at (λ r. r.lots.0) entries i blank w in
-    let q = times_le (get_or entries i blank).lots.0 c.weigh-against-reach.result.0 most_reach c.weigh-against-reach.ensures.short in
+    let q = times_le (get_or entries i blank).lots.0 c.weigh_against-reach.result.0 most_reach c.weigh_against-reach.ensures.short in
     record { few = within_le _ (most_reach * record_lots (take i entries)) _ (omega (arith, t, h)) c.loop-entry.invariant.1; small = omega (arith, q, o, h) }
 
 pub loop-entry-preserved : goal.loop-entry-preserved
@@ -55,16 +55,16 @@ loop-entry-preserved g c =
     let i = c.loop-entry.entry-index in
     let e = get_or c.args.entries.now c.loop-entry.entry-index blank in
     let w : c.loop-entry.entry-index < length c.args.entries.now = search rules in
-    let a = c.weigh-against-reach.ensures in
-    let reach = c.weigh-against-reach.result.0 in
-    let q = times_le e.lots.0 c.weigh-against-reach.result.0 most_reach a.short in
+    let a = c.weigh_against-reach.ensures in
+    let reach = c.weigh_against-reach.result.0 in
+    let q = times_le e.lots.0 c.weigh_against-reach.result.0 most_reach a.short in
     let m = sum_of_more (λ r. r.lots.0) entries i blank w in (
-      c.added-of-entries.ensures
+      c.added-of_entries.ensures
           ∙ ap (λ s. plus Entry e.kind s (e.lots.0 * reach)) c.loop-entry.invariant.0
           ∙ ap (λ n. plus Entry e.kind (record_weights net Entry (take i entries) exits) (e.lots.0 * n)) a.reach
           ∙ tally_more Entry (λ r. r.lots.0 * record_reach net r.station exits) entries i blank w,
-      subst (λ s. Within s (most_reach * record_lots (take (i + 1) entries))) (sym c.added-of-entries.ensures)
-          (within_le _ (most_reach * record_lots (take i entries) + e.lots.0 * reach) _ (omega (arith, q, m)) (plus_within Entry e.kind c.loop-entry.of-entries _ _ c.loop-entry.invariant.1)),
+      subst (λ s. Within s (most_reach * record_lots (take (i + 1) entries))) (sym c.added-of_entries.ensures)
+          (within_le _ (most_reach * record_lots (take i entries) + e.lots.0 * reach) _ (omega (arith, q, m)) (plus_within Entry e.kind c.loop-entry.of_entries _ _ c.loop-entry.invariant.1)),
       a.brought ∙ ap (λ s. both s (tally Exit (brought net e) exits)) c.loop-entry.invariant.2 ∙ other_more net (g.met.S.Source.lawful c.args.source.now) Exit exits entries i blank w,
       within_le _ (most_reach * record_lots (take i entries) + e.lots.0 * reach) _ (omega (arith, q, m)) (a.few (most_reach * record_lots (take i entries)) c.loop-entry.invariant.3),
     )

@@ -6,7 +6,7 @@ use Rattle.book.proofs.weighing.six_weights.Given as goal
 
 abbrev pub invariant-loop-entry : goal.invariant-loop-entry
 invariant-loop-entry g l =
-    (l.of-entries ≡ record_weights (g.S.Source.net l.source) Entry (take l.entry-index l.entries) l.exits)
-    × Within l.of-entries (most_reach * record_lots (take l.entry-index l.entries))
-    × (l.of-exits ≡ record_weights (g.S.Source.net l.source) Exit l.exits (take l.entry-index l.entries))
-    × Within l.of-exits (most_reach * record_lots (take l.entry-index l.entries))
+    (l.of_entries ≡ record_weights (g.S.Source.net l.source) Entry (take l.entry-index l.entries) l.exits)
+    × Within l.of_entries (most_reach * record_lots (take l.entry-index l.entries))
+    × (l.of_exits ≡ record_weights (g.S.Source.net l.source) Exit l.exits (take l.entry-index l.entries))
+    × Within l.of_exits (most_reach * record_lots (take l.entry-index l.entries))

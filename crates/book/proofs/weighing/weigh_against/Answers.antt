@@ -11,45 +11,45 @@ use Rattle.book.proofs.weighing.weigh_against.Goals as goal
 pub loop-exit-init : goal.loop-exit-init
 loop-exit-init g c = (refl, both_none c.args.before, λ b h. within_le _ b _ (omega arith) h)
 
-pub overflow-mul-part : goal.overflow-mul-part
-overflow-mul-part g c =
+pub overflow_mul-part : goal.overflow_mul-part
+overflow_mul-part g c =
     let net = g.S.Source.net c.args.source.now in
     let lawful = g.met.S.Source.lawful c.args.source.now in
     let from = c.args.from in
     let exits = c.args.exits.now in
     let i = c.loop-exit.exit-index in
     let w : c.loop-exit.exit-index < length c.args.exits.now = search rules in
-    let d = c.length-of.ensures ∙ ap km c.distance.ensures in
+    let d = c.length_of.ensures ∙ ap km c.distance.ensures in
     let x = get_or exits i blank in
-    let p : x.lots.0 * c.length-of.result ≤ most_reach = subst (λ n. x.lots.0 * n ≤ most_reach) (sym d) (load_few net lawful from.station exits i w c.requires.light) in
+    let p : x.lots.0 * c.length_of.result ≤ most_reach = subst (λ n. x.lots.0 * n ≤ most_reach) (sym d) (load_few net lawful from.station exits i w c.requires.light) in
     search (rules, p)
 
-pub overflow-add-reach : goal.overflow-add-reach
-overflow-add-reach g c =
+pub overflow_add-reach : goal.overflow_add-reach
+overflow_add-reach g c =
     let net = g.S.Source.net c.args.source.now in
     let lawful = g.met.S.Source.lawful c.args.source.now in
     let from = c.args.from in
     let exits = c.args.exits.now in
     let i = c.loop-exit.exit-index in
     let w : c.loop-exit.exit-index < length c.args.exits.now = search rules in
-    let d = c.length-of.ensures ∙ ap km c.distance.ensures in
+    let d = c.length_of.ensures ∙ ap km c.distance.ensures in
     let x = get_or exits i blank in
-    let r = ap (λ n. n + x.lots.0 * c.length-of.result) c.loop-exit.invariant.0 ∙ ap (λ n. record_reach net from.station (take i exits) + x.lots.0 * n) d ∙ sum_of_more (record_load net from.station) exits i blank w in
+    let r = ap (λ n. n + x.lots.0 * c.length_of.result) c.loop-exit.invariant.0 ∙ ap (λ n. record_reach net from.station (take i exits) + x.lots.0 * n) d ∙ sum_of_more (record_load net from.station) exits i blank w in
     let b = reach_few net lawful from.station exits (i + 1) c.requires.light in
     search (rules, r, b)
 
-pub overflow-mul-from : goal.overflow-mul-from
-overflow-mul-from g c =
+pub overflow_mul-from : goal.overflow_mul-from
+overflow_mul-from g c =
     let net = g.S.Source.net c.args.source.now in
     let lawful = g.met.S.Source.lawful c.args.source.now in
     let from = c.args.from in
     let exits = c.args.exits.now in
     let i = c.loop-exit.exit-index in
     let w : c.loop-exit.exit-index < length c.args.exits.now = search rules in
-    let d = c.length-of.ensures ∙ ap km c.distance.ensures in
+    let d = c.length_of.ensures ∙ ap km c.distance.ensures in
     let x = get_or exits i blank in
-    let p : x.lots.0 * c.length-of.result ≤ most_reach = subst (λ n. x.lots.0 * n ≤ most_reach) (sym d) (load_few net lawful from.station exits i w c.requires.light) in
-    let q = times_le from.lots.0 (x.lots.0 * c.length-of.result) most_reach p in
+    let p : x.lots.0 * c.length_of.result ≤ most_reach = subst (λ n. x.lots.0 * n ≤ most_reach) (sym d) (load_few net lawful from.station exits i w c.requires.light) in
+    let q = times_le from.lots.0 (x.lots.0 * c.length_of.result) most_reach p in
     let l = c.requires.lots in
     search (rules, q)
 
@@ -61,14 +61,14 @@ added-weights-requires g c =
     let exits = c.args.exits.now in
     let i = c.loop-exit.exit-index in
     let w : c.loop-exit.exit-index < length c.args.exits.now = search rules in
-    let d = c.length-of.ensures ∙ ap km c.distance.ensures in
+    let d = c.length_of.ensures ∙ ap km c.distance.ensures in
     let x = get_or exits i blank in
     let l = c.requires.lots in
     let r = c.loop-exit.invariant.0 in
     let b = reach_few net lawful from.station exits i c.requires.light in
     let k = times_le from.lots.0 c.loop-exit.reach most_reach (omega (arith, r, b)) in
-    let p : x.lots.0 * c.length-of.result ≤ most_reach = subst (λ n. x.lots.0 * n ≤ most_reach) (sym d) (load_few net lawful from.station exits i w c.requires.light) in
-    let q = times_le from.lots.0 (x.lots.0 * c.length-of.result) most_reach p in
+    let p : x.lots.0 * c.length_of.result ≤ most_reach = subst (λ n. x.lots.0 * n ≤ most_reach) (sym d) (load_few net lawful from.station exits i w c.requires.light) in
+    let q = times_le from.lots.0 (x.lots.0 * c.length_of.result) most_reach p in
     record {
       few = within_le _ (heaviest + from.lots.0 * c.loop-exit.reach) _ (omega (arith, k, l)) (c.loop-exit.invariant.2 heaviest c.requires.few);
       small = omega (arith, q, l);
@@ -82,16 +82,16 @@ loop-exit-preserved g c =
     let exits = c.args.exits.now in
     let i = c.loop-exit.exit-index in
     let w : c.loop-exit.exit-index < length c.args.exits.now = search rules in
-    let d = c.length-of.ensures ∙ ap km c.distance.ensures in
+    let d = c.length_of.ensures ∙ ap km c.distance.ensures in
     let x = get_or exits i blank in (
-      ap (λ n. n + x.lots.0 * c.length-of.result) c.loop-exit.invariant.0 ∙ ap (λ n. record_reach net from.station (take i exits) + x.lots.0 * n) d ∙ sum_of_more (record_load net from.station) exits i blank w,
+      ap (λ n. n + x.lots.0 * c.length_of.result) c.loop-exit.invariant.0 ∙ ap (λ n. record_reach net from.station (take i exits) + x.lots.0 * n) d ∙ sum_of_more (record_load net from.station) exits i blank w,
       c.added-weights.ensures
-          ∙ ap (λ s. plus Exit x.kind s (from.lots.0 * (x.lots.0 * c.length-of.result))) c.loop-exit.invariant.1
+          ∙ ap (λ s. plus Exit x.kind s (from.lots.0 * (x.lots.0 * c.length_of.result))) c.loop-exit.invariant.1
           ∙ plus_both Exit x.kind c.args.before _ _
           ∙ ap (λ n. both c.args.before (plus Exit x.kind (tally Exit (brought net from) (take i exits)) (from.lots.0 * (x.lots.0 * n)))) d
           ∙ ap (both c.args.before) (tally_more Exit (brought net from) exits i blank w),
-      λ b h. subst (λ s. Within s (b + from.lots.0 * (c.loop-exit.reach + x.lots.0 * c.length-of.result))) (sym c.added-weights.ensures)
-          (within_le _ (b + from.lots.0 * c.loop-exit.reach + from.lots.0 * (x.lots.0 * c.length-of.result)) _ (omega (arith, mul-add from.lots.0 c.loop-exit.reach (x.lots.0 * c.length-of.result))) (plus_within Exit x.kind c.loop-exit.weights _ _ (c.loop-exit.invariant.2 b h))),
+      λ b h. subst (λ s. Within s (b + from.lots.0 * (c.loop-exit.reach + x.lots.0 * c.length_of.result))) (sym c.added-weights.ensures)
+          (within_le _ (b + from.lots.0 * c.loop-exit.reach + from.lots.0 * (x.lots.0 * c.length_of.result)) _ (omega (arith, mul-add from.lots.0 c.loop-exit.reach (x.lots.0 * c.length_of.result))) (plus_within Exit x.kind c.loop-exit.weights _ _ (c.loop-exit.invariant.2 b h))),
     )
 
 pub returns : goal.returns

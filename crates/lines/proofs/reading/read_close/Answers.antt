@@ -13,24 +13,24 @@ returns-then-not-ended c =
     let due : DueOrNoMemory (read_close c.args.n (raw_of c.args.line)) (Err (TooLong c.args.n)) = search rules in
     record { due = due; law = closing_law _ _ _ due }
 
-pub returns-in-err-words : goal.returns-in-err-words
-returns-in-err-words c =
-    let e = err_from_is_err_and c.from-residual.result c.from-residual.ensures.1 in
+pub returns-in_err-words : goal.returns-in_err-words
+returns-in_err-words c =
+    let e = err_from_is_err_and c.from_residual.result c.from_residual.ensures.1 in
     rw (e.1, e.2) (record { due = inr refl; law = closing_law c.args.n _ _ (inr refl) })
 
-pub returns-in-err-asked : goal.returns-in-err-asked
-returns-in-err-asked c =
-    let e = err_from_is_err_and c.from-residual-in-err-asked.result c.from-residual-in-err-asked.ensures.1 in
+pub returns-in_err-asked : goal.returns-in_err-asked
+returns-in_err-asked c =
+    let e = err_from_is_err_and c.from_residual-in_err-asked.result c.from_residual-in_err-asked.ensures.1 in
     let is =
-    misread c.args.n c.args.line c.bytes.result.now (vec_items c.in-ok-words.words) c.as-slice.result.now
-    (sym c.ended.ensures ∙ c.if-not-ended.false) c.bytes.ensures c.if-bytes-gt-LONGEST-LINE.false c.as-slice.ensures.value c.in-ok-words.ensures.seen
-    c.in-err-asked.field-0.0 c.in-err-asked.ensures.asks in
+    misread c.args.n c.args.line c.bytes.result.now (vec_items c.in_ok-words.words) c.as_slice.result.now
+    (sym c.ended.ensures ∙ c.if-not-ended.false) c.bytes.ensures c.if-bytes-gt-LONGEST_LINE.false c.as_slice.ensures.value c.in_ok-words.ensures.seen
+    c.in_err-asked.field-0.0 c.in_err-asked.ensures.asks in
     rw (e.1, e.2) (record { due = inl is; law = closing_law c.args.n _ _ (inl is) })
 
 pub returns : goal.returns
 returns c =
     let is =
-    well_read c.args.n c.args.line c.bytes.result.now (vec_items c.in-ok-words.words) c.as-slice.result.now
-    (sym c.ended.ensures ∙ c.if-not-ended.false) c.bytes.ensures c.if-bytes-gt-LONGEST-LINE.false c.as-slice.ensures.value c.in-ok-words.ensures.seen
-    (meaning c.in-ok-asked.asked) c.figures.result c.in-ok-asked.ensures.asks c.figures.ensures in
+    well_read c.args.n c.args.line c.bytes.result.now (vec_items c.in_ok-words.words) c.as_slice.result.now
+    (sym c.ended.ensures ∙ c.if-not-ended.false) c.bytes.ensures c.if-bytes-gt-LONGEST_LINE.false c.as_slice.ensures.value c.in_ok-words.ensures.seen
+    (meaning c.in_ok-asked.asked) c.figures.result c.in_ok-asked.ensures.asks c.figures.ensures in
     record { due = inl is; law = closing_law c.args.n _ _ (inl is) }

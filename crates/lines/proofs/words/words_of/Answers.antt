@@ -16,8 +16,8 @@ split-requires c =
 pub returns : goal.returns
 returns c =
     let l = c.args.line in
-    let v = vec_items c.in-ok-words.words in
-    let is = moved v _ _ l.at (bytes_of l) c.place.ensures c.bytes.ensures c.in-ok-words.ensures in
+    let v = vec_items c.in_ok-words.words in
+    let is = moved v _ _ l.at (bytes_of l) c.place.ensures c.bytes.ensures c.in_ok-words.ensures in
     record {
       seen = is;
       parts = λ inside. parts (sheet_of l) l.at l.len (bytes_of l) v refl inside is;

@@ -19,11 +19,11 @@ loop-line-preserved c =
       omega (arith, c.next-at.ensures.bound, ap length b.same),
       so_far_more (lines sheet) (raw_of c.in-Some.line) _ c.loop-line.n c.loop-line.carried.amount.0 _ (string_bytes c.loop-line.out) _
           (subst (λ ls. SoFar (lines sheet) ls c.loop-line.n c.loop-line.carried.amount.0 (string_bytes c.loop-line.out)) e i.2)
-          c.in-ok-carried.ensures,
+          c.in_ok-carried.ensures,
     )
 
 pub returns : goal.returns
 returns c =
     let sheet = c.args.sheet.now in
     so_far_end (lines sheet) c.loop-line.n c.loop-line.carried.amount.0 _
-    (subst (λ ls. SoFar (lines sheet) ls c.loop-line.n c.loop-line.carried.amount.0 (string_bytes c.loop-line.out)) c.in-default.ensures.found c.loop-line.invariant.2)
+    (subst (λ ls. SoFar (lines sheet) ls c.loop-line.n c.loop-line.carried.amount.0 (string_bytes c.loop-line.out)) c.in_default.ensures.found c.loop-line.invariant.2)

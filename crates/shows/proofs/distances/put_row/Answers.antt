@@ -9,7 +9,7 @@ joined old head mid last all a b c p q r e =
 pub returns : goal.returns
 returns g c =
     let net = g.S.Source.net c.args.source.now in
-    let head = c.in-ok-push-str.ensures.bytes ∙ ap (λ t. string_bytes c.args.out.now ++ t) (c.as-str.ensures.value ∙ c.in-ok-head.ensures.ok) in
+    let head = c.in_ok-push_str.ensures.bytes ∙ ap (λ t. string_bytes c.args.out.now ++ t) (c.as_str.ensures.value ∙ c.in_ok-head.ensures.ok) in
     joined (string_bytes c.args.out.now) (decimal c.args.a ++ codes ":") (cells (net.distance c.args.a) net.stations) (codes "\n") (row_text net c.args.a) _ _ _
-    head c.in-ok-put-distances.ensures c.in-ok-push-str-2.ensures.bytes
+    head c.in_ok-put_distances.ensures c.in_ok-push_str-2.ensures.bytes
     (append_assoc (decimal c.args.a) (codes ":") (cells (net.distance c.args.a) net.stations ++ codes "\n"))

@@ -4,8 +4,8 @@ use Rattle.book.specs.Records.{record_lots, blank}
 use Rattle.book.proofs.Sums.{sum_of_more, sum_of_take}
 use Rattle.book.proofs.row.Row.lots.Goals as goal
 
-pub overflow-add-sum : goal.overflow-add-sum
-overflow-add-sum c =
+pub overflow_add-sum : goal.overflow_add-sum
+overflow_add-sum c =
     let points = c.held-points.result.now in
     let w : c.loop-point.point-index < length points = search rules in
     let m = sum_of_more (λ r. r.lots.0) points c.loop-point.point-index blank w in

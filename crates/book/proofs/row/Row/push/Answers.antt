@@ -4,14 +4,14 @@ use Rattle.book.specs.Records.{record_lots}
 use Rattle.book.proofs.Sums.{sum_of_push}
 use Rattle.book.proofs.row.Row.push.Goals as goal
 
-pub invariant-of-self : goal.invariant-of-self
-invariant-of-self c =
+pub invariant_of-self : goal.invariant_of-self
+invariant_of-self c =
     let row = c.args.self.now in
     let space = simp length-take at c.requires.space in
     let l : row.count < length row.places = search rules in
     let e = ap record_lots (take_more_set row.places row.count c.args.added l) in
     let a = sum_of_push (λ r. r.lots.0) (take row.count row.places) c.args.added in
-    (omega arith, (omega (arith, e, a), tt))
+    record { fits = omega arith; light = omega (arith, e, a) }
 
 pub returns : goal.returns
 returns c =

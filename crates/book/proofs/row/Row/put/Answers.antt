@@ -4,14 +4,14 @@ use Rattle.book.specs.Records.{record_lots}
 use Rattle.book.proofs.Records.{take_of_set}
 use Rattle.book.proofs.row.Row.put.Goals as goal
 
-pub offset-bounds-self-at : goal.offset-bounds-self-at
-offset-bounds-self-at c = let within = simp length-take at c.requires.within in let f = c.args.self.now.fits in search rules
+pub offset_bounds-self-at : goal.offset_bounds-self-at
+offset_bounds-self-at c = let within = simp length-take at c.requires.within in let f = c.args.self.now.fits in search rules
 
-pub invariant-of-self : goal.invariant-of-self
-invariant-of-self c =
+pub invariant_of-self : goal.invariant_of-self
+invariant_of-self c =
     let row = c.args.self.now in
     let e = ap record_lots (take_of_set row.count row.places c.args.at c.args.written) in
-    (row.fits, (omega (arith, e, c.requires.light), tt))
+    record { fits = row.fits; light = omega (arith, e, c.requires.light) }
 
 pub returns : goal.returns
 returns c =

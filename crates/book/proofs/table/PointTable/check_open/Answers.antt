@@ -8,8 +8,8 @@ use Rattle.book.proofs.Showing.{side_count}
 use Rattle.book.proofs.Openings.{kind_kept, checked_pass, made_all, most_le}
 use Rattle.book.proofs.table.PointTable.check_open.Goals as goal
 
-pub returns-then-held-most-points : goal.returns-then-held-most-points
-returns-then-held-most-points g c =
+pub returns-then-held-most_points : goal.returns-then-held-most_points
+returns-then-held-most_points g c =
     let e = ap length (c.held.ensures.value ∙ ap held_in c.row.ensures) in
     record {
       checked = λ p sh.
@@ -33,7 +33,7 @@ returns g c =
     let net = g.S.Source.net c.args.source.now in
     let t = c.args.self.now in
     let e = ap length (c.held.ensures.value ∙ ap held_in c.row.ensures) in
-    let o = c.held-opposite.ensures.value ∙ ap held_in c.row-2.ensures ∙ ap (λ s. held_in (row_of t s)) c.other_side_lem.ensures in
+    let o = c.held-opposite.ensures.value ∙ ap held_in c.row-2.ensures ∙ ap (λ s. held_in (row_of t s)) c.other_side.ensures in
     let room : length (held_in (row_of t c.args.side)) < most_points c.args.side = omega (arith, e) in
     let there : c.args.station < net.stations = search rules in
     let l = most_le c.args.side in

@@ -5,11 +5,11 @@ use Rattle.book.proofs.Sums.{sum_of_at}
 use Rattle.book.proofs.Plans.{past, known, overplanned, not_overplanned, lots_replanned}
 use Rattle.book.proofs.table.PointTable.check_plan.Goals as goal
 
-pub returns-in-default : goal.returns-in-default
-returns-in-default c = record { checked = λ net p sh. inl (past c.args.self.now p sh c.args.point c.in-default.ensures, refl); place = tt }
+pub returns-in_default : goal.returns-in_default
+returns-in_default c = record { checked = λ net p sh. inl (past c.args.self.now p sh c.args.point c.in_default.ensures, refl); place = tt }
 
-pub overflow-sub-others : goal.overflow-sub-others
-overflow-sub-others c =
+pub overflow_sub-others : goal.overflow_sub-others
+overflow_sub-others c =
     let v = c.held.ensures.value in
     let e = v ∙ ap held_in c.row-row.ensures in
     let w = subst (λ rs. c.in-Some.at < length rs) (sym e) c.in-Some.ensures.0 in

@@ -6,10 +6,10 @@ use Rattle.rules.specs.declared.calls.Answer.TheVariants.{Opened}
 use Rattle.book.proofs.Openings.{shows_opened}
 use Rattle.book.proofs.table.PointTable.open.Goals as goal
 
-pub returns-in-err-check-open : goal.returns-in-err-check-open
-returns-in-err-check-open g c =
-    let e = err_from_is_err_and c.from-residual.result c.from-residual.ensures.1 in
-    rw (e.1, e.2) (record { kept = refl; step = λ p sh. (p, refused (c.in-err-check-open.ensures.checked p sh), sh) })
+pub returns-in_err-check_open : goal.returns-in_err-check_open
+returns-in_err-check_open g c =
+    let e = err_from_is_err_and c.from_residual.result c.from_residual.ensures.1 in
+    rw (e.1, e.2) (record { kept = refl; step = λ p sh. (p, refused (c.in_err-check_open.ensures.checked p sh), sh) })
 
 pub returns : goal.returns
 returns g c = record {
@@ -18,7 +18,7 @@ returns g c = record {
       let call = Open c.args.side c.args.kind c.args.station in
       let n = c.points-number.ensures.figure p sh in (
         after p call,
-        subst (λ m. Handles (g.S.Source.net c.args.source.now) p call (Ok (Opened m)) (after p call)) (sym n) (accepted (c.in-ok-check-open.ensures.checked p sh)),
+        subst (λ m. Handles (g.S.Source.net c.args.source.now) p call (Ok (Opened m)) (after p call)) (sym n) (accepted (c.in_ok-check_open.ensures.checked p sh)),
         shows_opened c.args.self.now c.add.new.self p c.args.side c.args.kind c.args.station c.points-number.result n c.add.ensures sh,
       );
 }

@@ -8,17 +8,17 @@ use Rattle.book.specs.Steps.{Rewritten}
 use Rattle.book.proofs.Plans.{shows_planned}
 use Rattle.book.proofs.table.PointTable.plan.Goals as goal
 
-pub returns-in-err-side : goal.returns-in-err-side
-returns-in-err-side c =
-    let e = err_from_is_err_and c.from-residual.result c.from-residual.ensures.1 in
-    rw (e.1, e.2) (record { kept = refl; step = λ net p sh. (p, refused (c.in-err-side.ensures.checked net p sh), sh) })
+pub returns-in_err-side : goal.returns-in_err-side
+returns-in_err-side c =
+    let e = err_from_is_err_and c.from_residual.result c.from_residual.ensures.1 in
+    rw (e.1, e.2) (record { kept = refl; step = λ net p sh. (p, refused (c.in_err-side.ensures.checked net p sh), sh) })
 
 pub returns : goal.returns
 returns c =
     let t = c.args.self.now in
-    let side = c.in-ok-side.side in
-    let at = c.in-ok-side.at in
-    let found = c.in-ok-side.ensures in
+    let side = c.in_ok-side.side in
+    let at = c.in_ok-side.at in
+    let found = c.in_ok-side.ensures in
     let e = c.held.ensures.value ∙ ap held_in c.row.ensures in
     record {
       kept = tt;

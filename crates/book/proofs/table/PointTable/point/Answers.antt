@@ -5,8 +5,8 @@ use Rattle.book.proofs.Places.{nth_past}
 use Rattle.book.proofs.Plans.{past, recorded, seen_point}
 use Rattle.book.proofs.table.PointTable.point.Goals as goal
 
-pub returns-in-default : goal.returns-in-default
-returns-in-default c = record { value = c.in-default.ensures; figure = λ p sh. sym (nth_past p.points c.args.number (past c.args.self.now p sh c.args.number c.in-default.ensures)) }
+pub returns-in_default : goal.returns-in_default
+returns-in_default c = record { value = c.in_default.ensures; figure = λ p sh. sym (nth_past p.points c.args.number (past c.args.self.now p sh c.args.number c.in_default.ensures)) }
 
 pub returns : goal.returns
 returns c =

@@ -6,8 +6,8 @@ use Rattle.rules.specs.Plain.{refused, accepted, after}
 use Rattle.book.proofs.Settling.{shows_relieved}
 use Rattle.book.proofs.table.PointTable.relieve.Goals as goal
 
-pub returns-in-default : goal.returns-in-default
-returns-in-default c = record { kept = refl; step = λ net p sh. (p, refused (inl (c.in-default.ensures, refl)), sh) }
+pub returns-in_default : goal.returns-in_default
+returns-in_default c = record { kept = refl; step = λ net p sh. (p, refused (inl (c.in_default.ensures, refl)), sh) }
 
 pub returns-in-Entry : goal.returns-in-Entry
 returns-in-Entry c =
