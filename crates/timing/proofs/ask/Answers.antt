@@ -11,5 +11,5 @@ loop-i-preserved g c =
     let law = g.met.S.Source.lawful c.args.source.now in
     elim c.match-distance.branch [
       | goal.in-Some w ↦ omega (arith, w.sum-is, c.loop-i.invariant, short _ law _ _ w.in-Some.k.0 w.in-Some.ensures)
-      | goal.in-default w ↦ omega (arith, w.sum-is, c.loop-i.invariant)
+      | goal.in_default w ↦ omega (arith, w.sum-is, c.loop-i.invariant)
     ]
