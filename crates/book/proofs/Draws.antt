@@ -1,5 +1,5 @@
 -- What is drawn from the records is what the rules define on the points.
-use Rattle.std.proofs.Common.{◌≡◌, ℕ, zero, suc, ◌+◌, ◌*◌, ◌<◌, ◌≤◌, Bool, true, false, cond, List, [], ◌∷◌, Ok, Err, Result, sym, refl, ap, ◌∙◌, subst, arith}
+use Rattle.std.proofs.Common.{◌≡◌, ℕ, suc, ◌+◌, ◌*◌, Bool, true, false, cond, List, [], ◌∷◌, Ok, Err, Result, sym, refl, ap, ◌∙◌, subst, arith}
 use Rattle.terms.specs.declared.points.Side.{Side}
 use Rattle.terms.specs.declared.points.Side.TheVariants.{Entry, Exit}
 use Rattle.terms.specs.declared.points.Kind.{Kind}
@@ -9,9 +9,7 @@ use Rattle.terms.specs.Faults.{book_refusal}
 use Rattle.terms.specs.Refusals.{FirstBroken, NoneBroken}
 use Rattle.network.specs.Net.{Net}
 use Rattle.pricing.specs.declared.basis.Weights.{Weights}
-use Rattle.pricing.specs.declared.basis.Basis.{Basis}
 use Rattle.pricing.specs.declared.figures.SideLots.{SideLots}
-use Rattle.pricing.specs.declared.figures.TariffFigures.{TariffFigures}
 use Rattle.pricing.specs.declared.plan.SidePlan.{SidePlan}
 use Rattle.pricing.specs.declared.relief.Relief.{Relief}
 use Rattle.pricing.specs.declared.decision.Draft.{Draft}
@@ -21,14 +19,14 @@ use Rattle.pricing.specs.Drafts.{Drawing, drawing_of, draw_rules, figures_of}
 use Rattle.rules.specs.declared.calls.Call.TheVariants.{Draw}
 use Rattle.rules.specs.declared.calls.Answer.TheVariants.{Drawn}
 use Rattle.rules.specs.Points.{Point, Plain, same_side, opposite, on_side}
-use Rattle.rules.specs.Weights.{main_kind, other_kind, same_kind, sum_of, sum_by, km, weight_of, lots_in, weights_of, side_lots, half_of, basis_of, drawing}
+use Rattle.rules.specs.Weights.{main_kind, other_kind, same_kind, sum_of, sum_by, km, weight_of, lots_in, weights_of, side_lots, half_of, drawing}
 use Rattle.rules.specs.Plain.{Handles, refused, accepted}
 use Rattle.book.specs.declared.record.PointRecord.{PointRecord}
 use Rattle.book.specs.declared.table.PointTable.{PointTable}
 use Rattle.book.specs.Records.{record_of, records_from}
 use Rattle.book.specs.Shows.{held_in, row_of, Shows}
 use Rattle.book.specs.Tallies.{record_reach, record_weights, record_side_lots}
-use Rattle.book.specs.Follows.{Follows, drawn}
+use Rattle.book.specs.Follows.{drawn}
 
 sum_of_records : (f : PointRecord → ℕ) (g : Point → ℕ) → ((n : ℕ) (q : Point) → f (record_of n q) ≡ g q) → (b : ℕ) (s : Side) (qs : List Point) → sum_of f (records_from b s qs) ≡ sum_of g (on_side s qs)
 sum_of_records f g same b s [] = refl

@@ -1,8 +1,8 @@
 -- A table shows one list of points.
-use Rattle.std.proofs.Common.{◌≡◌, ℕ, zero, suc, ◌+◌, ◌<◌, ◌≤◌, Bool, true, false, cond, List, [], ◌∷◌, length, get_or, sym, refl, ap, ◌∙◌, subst, arith}
+use Rattle.std.proofs.Common.{◌≡◌, ℕ, suc, ◌<◌, cond, List, [], ◌∷◌, length, get_or, sym, refl, ap, ◌∙◌, arith}
 use Rattle.terms.specs.declared.points.Side.{Side}
 use Rattle.terms.specs.declared.points.Side.TheVariants.{Entry, Exit}
-use Rattle.rules.specs.Points.{Point, Plain, same_side}
+use Rattle.rules.specs.Points.{Point, same_side}
 use Rattle.book.specs.declared.record.PointRecord.{PointRecord}
 use Rattle.book.specs.Records.{record_of, records_from, blank}
 use Rattle.book.specs.Law.{Faithful}

@@ -1,5 +1,5 @@
 -- What a plan finds in a table, and what it leaves.
-use Rattle.std.proofs.Common.{◌≡◌, ℕ, ◌+◌, ◌-◌, ◌<◌, ◌≤◌, false, length, get_or, set, Some, None, Option, sym, refl, ap, ◌∙◌, subst, arith}
+use Rattle.std.proofs.Common.{◌≡◌, ℕ, ◌+◌, ◌-◌, ◌<◌, ◌≤◌, false, length, get_or, set, Some, None, sym, refl, ap, ◌∙◌, subst, arith}
 use Rattle.std.specs.List.{slice_get, AllByRecursion as All}
 use Rattle.terms.specs.declared.points.Side.{Side}
 use Rattle.terms.specs.declared.points.Side.TheVariants.{Entry, Exit}
@@ -15,7 +15,7 @@ use Rattle.book.specs.Shows.{held_in, row_of, Shows}
 use Rattle.book.specs.Steps.{Located, Rewritten, replanned}
 use Rattle.book.proofs.Sums.{sum_of_set, sum_of_at}
 use Rattle.book.proofs.Records.{lots_records}
-use Rattle.book.proofs.Places.{Standing, standing, absent, nth_below, nth_past, records_planned, records_still}
+use Rattle.book.proofs.Places.{Standing, standing, absent, nth_below, records_planned, records_still}
 use Rattle.book.proofs.Showing.{shows_points}
 
 other_side_lem : (s : Side) → same_side (opposite s) s ≡ false

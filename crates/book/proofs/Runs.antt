@@ -1,10 +1,10 @@
 -- One call more of a run.
-use Rattle.std.proofs.Common.{◌≡◌, ℕ, ◌+◌, ◌<◌, List, [], ◌∷◌, ◌++◌, length, get_or, take, sym, refl, ap, ◌∙◌, subst, arith}
+use Rattle.std.proofs.Common.{◌≡◌, ℕ, ◌+◌, ◌<◌, List, [], ◌∷◌, ◌++◌, length, get_or, take, sym, ap, ◌∙◌, subst, arith}
 use Rattle.std.proofs.lemmas.List.{take_more, length-take}
 use Rattle.network.specs.Net.{Net, Lawful}
 use Rattle.rules.specs.declared.calls.Call.{Call}
 use Rattle.rules.specs.Points.{Plain, empty}
-use Rattle.rules.specs.Plain.{Outcome, Handles}
+use Rattle.rules.specs.Plain.{Outcome}
 use Rattle.rules.specs.Runs.{History, Led, started, handled, paired, one}
 use Rattle.rules.proofs.Histories.{paired_push}
 use Rattle.rules.proofs.Promised.{promised, known_take}

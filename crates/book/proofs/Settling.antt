@@ -1,5 +1,5 @@
 -- What a relief and a closing leave.
-use Rattle.std.proofs.Common.{◌≡◌, ℕ, List, [], ℤ, Ok, Err, sym, refl, ap, ◌∙◌, subst, arith}
+use Rattle.std.proofs.Common.{◌≡◌, ℕ, Ok, Err, sym, ap, ◌∙◌, subst}
 use Rattle.terms.specs.declared.points.Side.{Side}
 use Rattle.terms.specs.declared.points.Side.TheVariants.{Entry, Exit}
 use Rattle.terms.specs.declared.faults.BookFault.{BookFault}
@@ -16,7 +16,6 @@ use Rattle.rules.specs.declared.calls.Call.TheVariants.{Relieve, Close}
 use Rattle.rules.specs.declared.calls.Answer.TheVariants.{Closed}
 use Rattle.rules.specs.Points.{Plain, opposite}
 use Rattle.rules.specs.Plain.{Handles, refused, accepted, after}
-use Rattle.book.specs.declared.row.Row.{Row}
 use Rattle.book.specs.declared.table.PointTable.{PointTable}
 use Rattle.book.specs.Shows.{held_in, row_of, ShowsSide, Shows}
 

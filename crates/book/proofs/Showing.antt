@@ -1,5 +1,5 @@
 -- What a table shows, before and after a change.
-use Rattle.std.proofs.Common.{◌≡◌, ℕ, ◌+◌, List, length, sym, refl, ap, ◌∙◌, subst, arith}
+use Rattle.std.proofs.Common.{◌≡◌, ◌+◌, List, length, sym, ap, ◌∙◌, subst, arith}
 use Rattle.terms.specs.declared.points.Side.{Side}
 use Rattle.terms.specs.declared.points.Side.TheVariants.{Entry, Exit}
 use Rattle.pricing.specs.declared.amount.Amount.{Amount}
@@ -8,7 +8,6 @@ use Rattle.revenue.specs.declared.carried.Carried.{Carried}
 use Rattle.rules.specs.Points.{Point, Plain, opposite, on_side, lots_of}
 use Rattle.rules.specs.Plain.{with_points}
 use Rattle.book.specs.declared.record.PointRecord.{PointRecord}
-use Rattle.book.specs.declared.row.Row.{Row}
 use Rattle.book.specs.declared.table.PointTable.{PointTable}
 use Rattle.book.specs.Records.{records_from, record_lots}
 use Rattle.book.specs.Shows.{held_in, row_of, ShowsSide, Shows}

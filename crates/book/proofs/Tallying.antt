@@ -1,5 +1,5 @@
 -- Sums by element, one record at a time, and their bounds.
-use Rattle.std.proofs.Common.{◌≡◌, ℕ, zero, suc, ◌+◌, ◌*◌, ◌<◌, ◌≤◌, Bool, true, false, cond, List, [], ◌∷◌, ◌++◌, length, get_or, take, Some, None, Option, sym, refl, ap, ◌∙◌, subst, mul_comm, mul-le-mul_left, arith}
+use Rattle.std.proofs.Common.{◌≡◌, ℕ, ◌+◌, ◌*◌, ◌<◌, ◌≤◌, Bool, true, false, cond, List, [], ◌∷◌, ◌++◌, length, get_or, take, Some, None, Option, sym, refl, ap, ◌∙◌, mul_comm, mul-le-mul_left, arith}
 use Rattle.std.proofs.lemmas.List.{take_more}
 use Rattle.terms.specs.declared.points.Side.{Side}
 use Rattle.terms.specs.declared.points.Kind.{Kind}
@@ -11,7 +11,7 @@ use Rattle.rules.specs.Limits.{most_lots}
 use Rattle.rules.specs.Weights.{main_kind, other_kind, same_kind, sum_of, sum_by, km}
 use Rattle.book.specs.declared.record.PointRecord.{PointRecord}
 use Rattle.book.specs.Records.{record_lots, blank}
-use Rattle.book.specs.Tallies.{no_weights, plus, both, tally, record_load, record_reach, record_weights, brought, Within, most_reach, heaviest}
+use Rattle.book.specs.Tallies.{no_weights, plus, both, tally, record_load, record_reach, record_weights, brought, Within, most_reach}
 use Rattle.book.proofs.Sums.{sum_of_push, sum_of_take, sum_of_at, sum_by_push, sum_by_le}
 
 abbrev weights : ℕ → ℕ → ℕ → Weights

@@ -2,7 +2,6 @@
 use Rattle.std.specs.Prelude.{◌≡◌, ℕ, Some, None, Option, slice_index_or}
 use Rattle.rules.specs.Points.{Plain}
 use Rattle.rules.specs.Points as plain
-use Rattle.book.specs.declared.record.PointRecord.{PointRecord}
 use Rattle.book.specs.declared.table.PointTable.{PointTable}
 use Rattle.book.specs.declared.reading.Point.{Point}
 use Rattle.book.specs.Records.{record_with, blank, Place}

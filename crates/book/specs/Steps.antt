@@ -1,5 +1,5 @@
 -- What the parts of a call find in a table, and do to it.
-use Rattle.std.specs.Prelude.{◌≡◌, ℕ, ◌<◌, ◌≤◌, List, [], ◌∷◌, ◌++◌, length, Some, None, Option, slice_index_or, slice_set}
+use Rattle.std.specs.Prelude.{◌≡◌, ℕ, ◌≤◌, List, [], ◌∷◌, ◌++◌, Some, None, Option, slice_index_or, slice_set}
 use Rattle.terms.specs.declared.points.Side.{Side}
 use Rattle.rules.specs.Points.{opposite}
 use Rattle.book.specs.declared.record.PointRecord.{PointRecord}

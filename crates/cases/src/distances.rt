@@ -136,7 +136,7 @@ fn layers_stand_on_layers(rt: HostRuntime) -> Result<(), Fail> {
     let figures = figures_of(rt.alloc(), &pile(rt.alloc())?)?;
     assert_eq!(rt;
         figures.as_slice(),
-        &[0, 40, 40, 50, 40, 0, 0, 30, 40, 0, 0, 30, 50, 30, 30, 0]
+        [0, 40, 40, 50, 40, 0, 0, 30, 40, 0, 0, 30, 50, 30, 30, 0].as_slice()
     );
     Ok(())
 }

@@ -60,10 +60,10 @@ fn each_space_parts_two_words_and_words_keep_their_places(rt: HostRuntime) -> Re
         [2, 7, 8, 10]
     );
     assert!(rt;
-        words[0].text == b"plan"
-            && words[1].text == b""
-            && words[2].text == b"0"
-            && words[3].text == b""
+        words[0].text == b"plan".as_slice()
+            && words[1].text == b"".as_slice()
+            && words[2].text == b"0".as_slice()
+            && words[3].text == b"".as_slice()
     );
     Ok(())
 }

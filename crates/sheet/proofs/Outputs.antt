@@ -1,5 +1,5 @@
 -- A sheet prints one text.
-use Rattle.std.proofs.Common.{◌≡◌, ℕ, ◌+◌, ◌<◌, ◌≤◌, ◌⊎◌, List, [], ◌∷◌, ◌++◌, length, ℤ, pos, Ok, Err, Result, sym, refl, ap, ◌∙◌, subst, inl, inr, arith}
+use Rattle.std.proofs.Common.{◌≡◌, ℕ, ◌+◌, ◌<◌, ◌≤◌, List, [], ◌∷◌, ◌++◌, length, ℤ, pos, Result, sym, refl, ap, ◌∙◌, subst, arith}
 use Rattle.terms.specs.Faults.{book_refusal}
 use Rattle.terms.proofs.Rulings.{first_one, not_both}
 use Rattle.revenue.specs.declared.figures.Figures.{Figures}

@@ -1,5 +1,5 @@
 -- A line's turn in a run.
-use Rattle.std.proofs.Common.{◌≡◌, ℕ, ◌⊎◌, List, [], ◌∷◌, ◌++◌, ℤ, Ok, Err, Result, sym, refl, ap, ◌∙◌, subst, inl, inr, arith}
+use Rattle.std.proofs.Common.{◌≡◌, ℕ, ℤ, Ok, Err, Result, sym, ap, subst, inl, inr, arith}
 use Rattle.terms.specs.Faults.{book_refusal}
 use Rattle.terms.specs.Refusals.{FirstBroken, NoneBroken}
 use Rattle.terms.specs.declared.faults.BookFault.{BookFault}
@@ -7,14 +7,11 @@ use Rattle.revenue.specs.declared.figures.Figures.{Figures}
 use Rattle.revenue.specs.declared.figures.Closing.{Closing}
 use Rattle.revenue.specs.Checks.{close_rules}
 use Rattle.revenue.specs.Closings.{closing_of}
-use Rattle.lines.specs.Bytes.{Text}
-use Rattle.lines.specs.Lines.{Raw}
-use Rattle.lines.specs.Reading.{DueOrNoMemory, read_close}
+use Rattle.lines.specs.Reading.{DueOrNoMemory}
 use Rattle.lines.specs.declared.faults.SheetFault.{SheetFault}
 use Rattle.lines.specs.declared.faults.SheetFault.TheVariants.{Book, NoMemory}
-use Rattle.sheet.specs.Printed.{Outcome, line_text}
-use Rattle.sheet.specs.Meaning.{Comes, misread, refused, closed, carried_after}
-use Rattle.sheet.specs.Steps.{ComesOrNoMemory, Turns}
+use Rattle.sheet.specs.Meaning.{Comes, misread, refused, closed}
+use Rattle.sheet.specs.Steps.{ComesOrNoMemory}
 
 -- what was read is what was due
 read_is : (due : Result Figures SheetFault) (f : Figures) → DueOrNoMemory due (Ok f) → Ok f ≡ due

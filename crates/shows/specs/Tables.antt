@@ -1,5 +1,5 @@
 -- The distances of a source as lines of text: a line for each station, with its number, a colon, and its distance to each station.
-use Rattle.std.specs.Prelude.{ℕ, zero, suc, List, [], ◌∷◌, ◌++◌, Some, None, codes, decimal, Option}
+use Rattle.std.specs.Prelude.{ℕ, zero, suc, List, [], ◌++◌, Some, None, codes, decimal, Option}
 use Rattle.network.specs.Net.{Net}
 
 -- a distance in km, or - where there is none

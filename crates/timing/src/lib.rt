@@ -1,4 +1,4 @@
-//! Work for the benchmarks, exported to C. A `Global` takes no bytes, so a C caller passes nothing for it.
+//! Work for the benchmarks. `timing_c` exports it to C.
 #![tactic(auto)]
 
 ghost use Rattle.std.specs.Prelude.{◌*◌, ◌≤◌};
@@ -57,8 +57,7 @@ fn ask<S: Source>(source: &S, turns: u32) -> u64
 }
 
 // How many of so many maps were made: all, unless memory was wanting.
-#[unsafe(no_mangle)]
-pub extern "C" fn timing_maps(heap: Global, turns: u32) -> u32
+pub fn timing_maps(heap: Global, turns: u32) -> u32
     ensures { result ≤ turns }
 {
     let mut made = 0;
@@ -68,8 +67,7 @@ pub extern "C" fn timing_maps(heap: Global, turns: u32) -> u32
     made
 }
 
-#[unsafe(no_mangle)]
-pub extern "C" fn timing_distances(heap: Global, turns: u32) -> u64
+pub fn timing_distances(heap: Global, turns: u32) -> u64
     ensures { result ≤ longest * turns }
 {
     match large_map(heap) {
@@ -78,8 +76,7 @@ pub extern "C" fn timing_distances(heap: Global, turns: u32) -> u64
     }
 }
 
-#[unsafe(no_mangle)]
-pub extern "C" fn timing_three_links(heap: Global, turns: u32) -> u64
+pub fn timing_three_links(heap: Global, turns: u32) -> u64
     ensures { result ≤ longest * turns }
 {
     match three_links(heap) {
@@ -120,8 +117,7 @@ fn long_trunk(heap: Global) -> Result<Trunk, SourceFault> {
     Trunk::new(heap, &positions)
 }
 
-#[unsafe(no_mangle)]
-pub extern "C" fn timing_trunk_draws(heap: Global, turns: u32) -> u32
+pub fn timing_trunk_draws(heap: Global, turns: u32) -> u32
     ensures { result ≤ turns }
 {
     match long_trunk(heap) {
@@ -130,8 +126,7 @@ pub extern "C" fn timing_trunk_draws(heap: Global, turns: u32) -> u32
     }
 }
 
-#[unsafe(no_mangle)]
-pub extern "C" fn timing_map_draws(heap: Global, turns: u32) -> u32
+pub fn timing_map_draws(heap: Global, turns: u32) -> u32
     ensures { result ≤ turns }
 {
     match large_map(heap) {

@@ -1,7 +1,7 @@
-use Rattle.std.proofs.Common.{◌≡◌, ◌+◌, ◌*◌, ◌<◌, ◌≤◌, length, get_or, take, sym, refl, ap, ◌∙◌, subst, arith, rules}
+use Rattle.std.proofs.Common.{◌*◌, ◌<◌, ◌≤◌, length, get_or, take, sym, ap, ◌∙◌, subst, arith, rules}
 use Rattle.std.proofs.lemmas.List.{take_all}
 use Rattle.book.specs.Records.{record_lots, blank}
-use Rattle.book.specs.Tallies.{tally, plus, Within, heaviest, record_side_lots}
+use Rattle.book.specs.Tallies.{tally, plus, Within, heaviest}
 use Rattle.book.proofs.Sums.{sum_of_take, sum_of_at}
 use Rattle.book.proofs.Tallying.{tally_more, tally_within, within_le}
 use Rattle.book.proofs.weighing.lots_by_element.Goals as goal

@@ -1,8 +1,8 @@
-use Rattle.std.proofs.Common.{◌≡◌, ℕ, ◌+◌, ◌*◌, ◌<◌, ◌≤◌, length, get_or, take, sym, refl, ap, ◌∙◌, subst, arith, rules}
+use Rattle.std.proofs.Common.{◌+◌, ◌*◌, ◌<◌, ◌≤◌, length, get_or, take, sym, ap, ◌∙◌, subst, arith, rules}
 use Rattle.std.proofs.lemmas.List.{take_all}
 use Rattle.terms.specs.declared.points.Side.TheVariants.{Entry, Exit}
 use Rattle.book.specs.Records.{record_lots, blank}
-use Rattle.book.specs.Tallies.{no_weights, tally, plus, both, record_reach, record_weights, brought, Within, most_reach, heaviest}
+use Rattle.book.specs.Tallies.{tally, plus, both, record_reach, record_weights, brought, Within, most_reach}
 use Rattle.book.proofs.Sums.{sum_of_take, sum_of_at, sum_of_more}
 use Rattle.book.proofs.Tallying.{tally_more, within_le, plus_within, none_other, within_none, other_more, times_le}
 use Rattle.book.proofs.weighing.six_weights.Goals as goal

@@ -1,4 +1,4 @@
-use Rattle.std.proofs.Common.{◌≡◌, ℕ, ◌+◌, ◌*◌, ◌<◌, ◌≤◌, length, get_or, take, sym, refl, ap, ◌∙◌, subst, mul-add, arith, rules}
+use Rattle.std.proofs.Common.{◌+◌, ◌*◌, ◌<◌, ◌≤◌, length, get_or, take, sym, refl, ap, ◌∙◌, subst, mul-add, arith, rules}
 use Rattle.std.proofs.lemmas.List.{take_all}
 use Rattle.terms.specs.declared.points.Side.TheVariants.{Exit}
 use Rattle.rules.specs.Weights.{km}

@@ -1,4 +1,4 @@
-use Rattle.std.proofs.Common.{◌≡◌, ℕ, ◌+◌, ◌*◌, ◌≤◌, take}
+use Rattle.std.proofs.Common.{◌≡◌, ℕ, ◌+◌, ◌*◌, take}
 use Rattle.terms.specs.declared.points.Side.TheVariants.{Exit}
 use Rattle.book.specs.Tallies.{tally, both, record_reach, brought, Within}
 use Rattle.book.proofs.weighing.weigh_against.Given as goal

@@ -1,6 +1,6 @@
-use Rattle.std.proofs.Common.{◌≡◌, [], ◌∷◌, length, drop, string_bytes, sym, refl, ap, ◌∙◌, subst, arith}
+use Rattle.std.proofs.Common.{◌≡◌, ◌∷◌, length, drop, string_bytes, sym, refl, ap, ◌∙◌, subst, arith}
 use Rattle.lines.specs.Lines.{lines}
-use Rattle.lines.specs.Seen.{raw_of, next_of}
+use Rattle.lines.specs.Seen.{raw_of}
 use Rattle.sheet.proofs.Runs.{SoFar, so_far_start, so_far_more, so_far_end}
 use Rattle.sheet.proofs.run.run_lines.Goals as goal
 

@@ -1,4 +1,4 @@
-use Rattle.std.proofs.Common.{◌++◌, string_bytes, codes, sym, ap, ◌∙◌, append_assoc, add-one}
+use Rattle.std.proofs.Common.{◌++◌, string_bytes, codes, ap, ◌∙◌, append_assoc, add-one}
 use Rattle.shows.specs.Tables.{distance_text, cells}
 use Rattle.shows.proofs.distances.put_distances.Goals as goal
 

@@ -1,4 +1,4 @@
-use Rattle.std.proofs.Common.{◌<◌, ◌≤◌, [], ◌∷◌, length, take, refl, ap, arith, rules}
+use Rattle.std.proofs.Common.{◌<◌, length, take, refl, ap, arith, rules}
 use Rattle.std.proofs.lemmas.List.{take_more_set, length-take}
 use Rattle.book.specs.Records.{record_lots}
 use Rattle.book.proofs.Sums.{sum_of_push}

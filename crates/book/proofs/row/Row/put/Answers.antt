@@ -1,4 +1,4 @@
-use Rattle.std.proofs.Common.{length, take, refl, ap, ◌∙◌, arith, rules}
+use Rattle.std.proofs.Common.{refl, ap, arith, rules}
 use Rattle.std.proofs.lemmas.List.{length-take}
 use Rattle.book.specs.Records.{record_lots}
 use Rattle.book.proofs.Records.{take_of_set}

@@ -1,4 +1,4 @@
-use Rattle.std.proofs.Common.{◌≡◌, ◌<◌, ◌≤◌, true, false, length, sym, refl, ap, ◌∙◌, subst, inl, inr, arith, rules}
+use Rattle.std.proofs.Common.{◌<◌, length, sym, refl, ap, ◌∙◌, subst, inl, inr, arith, rules}
 use Rattle.rules.specs.Limits.{most_points}
 use Rattle.rules.specs.declared.calls.Call.TheVariants.{Open}
 use Rattle.book.specs.Shows.{row_of, held_in}

@@ -1,6 +1,6 @@
-use Rattle.std.proofs.Common.{◌≡◌, ◌<◌, ◌≤◌, length, get_or, sym, refl, ap, ◌∙◌, subst, inl, inr, arith}
+use Rattle.std.proofs.Common.{◌<◌, length, get_or, sym, refl, ap, ◌∙◌, subst, inl, inr, arith}
 use Rattle.book.specs.Records.{record_lots, blank}
-use Rattle.book.specs.Shows.{held_in, row_of}
+use Rattle.book.specs.Shows.{held_in}
 use Rattle.book.proofs.Sums.{sum_of_at}
 use Rattle.book.proofs.Plans.{past, known, overplanned, not_overplanned, lots_replanned}
 use Rattle.book.proofs.table.PointTable.check_plan.Goals as goal

@@ -1,4 +1,4 @@
-use Rattle.std.proofs.Common.{◌≡◌, get_or, set, sym, refl, ap, ◌∙◌, subst, rules}
+use Rattle.std.proofs.Common.{get_or, set, refl, ap, ◌∙◌, subst}
 use Rattle.std.proofs.lemmas.Result.{err_from_is_err_and}
 use Rattle.rules.specs.declared.calls.Call.TheVariants.{Plan}
 use Rattle.rules.specs.Plain.{refused, accepted, after}

@@ -1,4 +1,4 @@
-use Rattle.std.proofs.Common.{◌≡◌, get_or, sym, refl, ap, ◌∙◌, subst, arith}
+use Rattle.std.proofs.Common.{get_or, sym, ap, ◌∙◌}
 use Rattle.book.specs.Records.{blank}
 use Rattle.book.specs.Shows.{held_in}
 use Rattle.book.proofs.Places.{nth_past}

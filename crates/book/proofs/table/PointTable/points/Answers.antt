@@ -1,4 +1,4 @@
-use Rattle.std.proofs.Common.{◌≡◌, length, ap, arith}
+use Rattle.std.proofs.Common.{length, ap, arith}
 use Rattle.book.proofs.Showing.{point_count}
 use Rattle.book.proofs.table.PointTable.points.Goals as goal
 
