@@ -3,7 +3,7 @@ use Rattle.std.proofs.Common.{◌≡◌, ℕ, suc, ◌+◌, ◌<◌, ◌≤◌, 
 use mathlib.Core.List.Memᴰ
 use mathlib.Core.List.{Memᴰ}
 use Rattle.std.proofs.lemmas.List.{append-nil}
-use Rattle.std.specs.List.{AllByRecursion as All}
+use Rattle.std.specs.List.{AllByRecursion}
 use Rattle.terms.specs.declared.points.Side.{Side}
 use Rattle.terms.specs.declared.points.Side.TheVariants.{Entry, Exit}
 use Rattle.terms.specs.declared.points.Kind.{Kind}
@@ -53,11 +53,11 @@ point_of b s (x ∷ qs) r m = by (same_side s x.side) refl m (point_of (suc b) s
     by false e k rest = later (rest k)
 
 -- what holds of the station of each record of a side holds of that of each point of the side
-each_point : (P : ℕ → Type 0) (b : ℕ) (s : Side) (qs : List Point) → All (λ r. P r.station) (records_from b s qs) → (q : Point) → Memᴰ q qs → q.side ≡ s → P q.station
+each_point : (P : ℕ → Type 0) (b : ℕ) (s : Side) (qs : List Point) → AllByRecursion (λ r. P r.station) (records_from b s qs) → (q : Point) → Memᴰ q qs → q.side ≡ s → P q.station
 each_point P b s [] a q m e = absurd (Memᴰ.not-nil m)
 each_point P b s (x ∷ qs) a q m e = by (same_side s x.side) refl a (each_point P (suc b) s qs) (Memᴰ.cases_cons m)
   where
-    by : (t : Bool) → same_side s x.side ≡ t → All (λ r. P r.station) (cond t (record_of b x ∷ records_from (suc b) s qs) (records_from (suc b) s qs)) → (All (λ r. P r.station) (records_from (suc b) s qs) → (z : Point) → Memᴰ z qs → z.side ≡ s → P z.station) → (q ≡ x) ⊎ Memᴰ q qs → P q.station
+    by : (t : Bool) → same_side s x.side ≡ t → AllByRecursion (λ r. P r.station) (cond t (record_of b x ∷ records_from (suc b) s qs) (records_from (suc b) s qs)) → (AllByRecursion (λ r. P r.station) (records_from (suc b) s qs) → (z : Point) → Memᴰ z qs → z.side ≡ s → P z.station) → (q ≡ x) ⊎ Memᴰ q qs → P q.station
     by true c k rest (inl i) = subst (λ (z : Point). P z.station) (sym i) k.0
     by true c k rest (inr m') = rest k.1 q m' e
     by false c k rest (inl i) = let z : true ≡ false = sym (side_test s x.side (ap (λ (y : Point). y.side) (sym i) ∙ e)) ∙ c in absurd (let o : ◌≡◌ {A = ℕ} 0 1 = cc in omega arith)
@@ -71,7 +71,7 @@ module _ (t : PointTable) (p : Plain) (sh : Shows t p) (s : Side) (P : ℕ → T
 
   missed : Finds P (held_in (row_of t (opposite s))) false → Opposite p.points s P → ⊥
   missed l u =
-      each_point (λ n. P n → ⊥) 0 (opposite s) p.points (subst (All (λ r. P r.station → ⊥)) (sh.sides (opposite s)).records l) u.0 u.1 u.2 u.3
+      each_point (λ n. P n → ⊥) 0 (opposite s) p.points (subst (AllByRecursion (λ r. P r.station → ⊥)) (sh.sides (opposite s)).records l) u.0 u.1 u.2 u.3
 
 module _ (net : Net) (t : PointTable) (s : Side) (k : Kind) (at : ℕ) (fits : of_side s k ≡ true) where
   pub kind_kept : of_side s k ≡ false → ⊥

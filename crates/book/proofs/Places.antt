@@ -1,6 +1,6 @@
 -- Where the record of a point stands, and what a plan of it changes.
 use Rattle.std.proofs.Common.{◌≡◌, ℕ, zero, suc, ◌+◌, ◌<◌, ◌≤◌, Bool, true, false, cond, eqb, List, [], ◌∷◌, length, get_or, set, Some, None, sym, refl, ap, ◌∙◌, arith, eq-eqb}
-use Rattle.std.specs.List.{slice_get, AllByRecursion as All}
+use Rattle.std.specs.List.{slice_get, AllByRecursion}
 use Rattle.std.proofs.lemmas.Bool.Decides.{nat_tests}
 use Rattle.terms.specs.declared.points.Side.{Side}
 use Rattle.terms.specs.declared.points.Side.TheVariants.{Entry, Exit}
@@ -47,11 +47,11 @@ standing b n s (q ∷ qs) i l e = by (same_side s q.side) refl i l e (λ j k f. 
     by false c j m f rest = later b n s q qs _ (rest j m f)
 
 -- a number that no record of either side has is past the points
-pub absent : (b n : ℕ) (qs : List Point) → b ≤ n → All (λ r. r.number ≡ n → ⊥) (records_from b Entry qs) → All (λ r. r.number ≡ n → ⊥) (records_from b Exit qs) → b + length qs ≤ n
+pub absent : (b n : ℕ) (qs : List Point) → b ≤ n → AllByRecursion (λ r. r.number ≡ n → ⊥) (records_from b Entry qs) → AllByRecursion (λ r. r.number ≡ n → ⊥) (records_from b Exit qs) → b + length qs ≤ n
 absent b n [] l e x = omega arith
 absent b n (q ∷ qs) l e x = by q.side e x (λ k f g. absent (suc b) n qs k f g)
   where
-    by : (t : Side) → All (λ r. r.number ≡ n → ⊥) (cond (same_side Entry t) (record_of b q ∷ records_from (suc b) Entry qs) (records_from (suc b) Entry qs)) → All (λ r. r.number ≡ n → ⊥) (cond (same_side Exit t) (record_of b q ∷ records_from (suc b) Exit qs) (records_from (suc b) Exit qs)) → (suc b ≤ n → All (λ r. r.number ≡ n → ⊥) (records_from (suc b) Entry qs) → All (λ r. r.number ≡ n → ⊥) (records_from (suc b) Exit qs) → suc b + length qs ≤ n) → b + suc (length qs) ≤ n
+    by : (t : Side) → AllByRecursion (λ r. r.number ≡ n → ⊥) (cond (same_side Entry t) (record_of b q ∷ records_from (suc b) Entry qs) (records_from (suc b) Entry qs)) → AllByRecursion (λ r. r.number ≡ n → ⊥) (cond (same_side Exit t) (record_of b q ∷ records_from (suc b) Exit qs) (records_from (suc b) Exit qs)) → (suc b ≤ n → AllByRecursion (λ r. r.number ≡ n → ⊥) (records_from (suc b) Entry qs) → AllByRecursion (λ r. r.number ≡ n → ⊥) (records_from (suc b) Exit qs) → suc b + length qs ≤ n) → b + suc (length qs) ≤ n
     by Entry f g rest = let ne = f.0 in let h = rest (omega arith) f.1 g in omega arith
     by Exit f g rest = let ne = g.0 in let h = rest (omega arith) f g.1 in omega arith
 

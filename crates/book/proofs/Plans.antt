@@ -1,6 +1,6 @@
 -- What a plan finds in a table, and what it leaves.
 use Rattle.std.proofs.Common.{◌≡◌, ℕ, ◌+◌, ◌-◌, ◌<◌, ◌≤◌, false, length, get_or, set, Some, None, sym, refl, ap, ◌∙◌, subst, arith}
-use Rattle.std.specs.List.{slice_get, AllByRecursion as All}
+use Rattle.std.specs.List.{slice_get, AllByRecursion}
 use Rattle.terms.specs.declared.points.Side.{Side}
 use Rattle.terms.specs.declared.points.Side.TheVariants.{Entry, Exit}
 use Rattle.terms.specs.declared.measures.Lots.{Lots}
@@ -39,8 +39,8 @@ module _ (t : PointTable) (p : Plain) (sh : Shows t p) where
   pub past : (n : ℕ) → Located t n None → length p.points ≤ n
   past n l =
       let a = absent 0 n p.points (omega arith)
-      (subst (All (λ r. r.number ≡ n → ⊥)) (sh.sides Entry).records (l Entry))
-      (subst (All (λ r. r.number ≡ n → ⊥)) (sh.sides Exit).records (l Exit)) in
+      (subst (AllByRecursion (λ r. r.number ≡ n → ⊥)) (sh.sides Entry).records (l Entry))
+      (subst (AllByRecursion (λ r. r.number ≡ n → ⊥)) (sh.sides Exit).records (l Exit)) in
       omega arith
 
   module _ (s : Side) (i n : ℕ) (place : Place (held_in (row_of t s)) n (Some i)) where

@@ -1,7 +1,7 @@
 -- What one pass over distances meets, and what checks 4 and 5 say of it.
 use Rattle.std.specs.Prelude.{◌≡◌, ℕ, ◌<◌, Bool, true, false, cond, ◌||◌, List, Some, None, Ok, Err, Option, Result, nat_lt}
 use mathlib.Core.List.{Memᴰ}
-use Rattle.std.specs.List.{AllByRecursion as All}
+use Rattle.std.specs.List.{AllByRecursion}
 use Rattle.terms.specs.declared.faults.BookFault.{BookFault}
 use Rattle.terms.specs.declared.faults.BookFault.TheVariants.{NoDistance, TooFar}
 use Rattle.network.specs.Net.{Net}
@@ -25,7 +25,7 @@ verdict_of p = cond p.lacking (Err NoDistance) (cond p.far (Err TooFar) (Ok tt))
 -- whether some of these records stand at a station of which P is true
 abbrev pub Finds : (ℕ → Type 0) → List PointRecord → Bool → Type 0
 Finds P rs true = (r : PointRecord) × Memᴰ r rs × P r.station
-Finds P rs false = All (λ r. P r.station → ⊥) rs
+Finds P rs false = AllByRecursion (λ r. P r.station → ⊥) rs
 
 -- The pass holds what checks 4 and 5 say of these records.
 pub record Met (net : Net) (at : ℕ) (rs : List PointRecord) (p : Pass) : Type 0 where

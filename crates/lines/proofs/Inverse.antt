@@ -2,7 +2,7 @@
 use Rattle.std.proofs.Common.{◌≡◌, ℕ, suc, ◌+◌, ◌*◌, ◌<◌, ◌≤◌, Bool, true, false, cond, ◌&&◌, eqb, leb, List, [], ◌∷◌, ◌++◌, map, length, get_or, ℤ, pos, negsuc, nat_abs, Some, None, Ok, Err, codes, decimal, Option, Result, sym, refl, ap, ◌∙◌, subst, inl, inr, arith}
 use Rattle.std.specs.Option.{ok_or}
 use Rattle.std.specs.Fmt.{signed_decimal}
-use Rattle.std.specs.List.{AllByRecursion as All}
+use Rattle.std.specs.List.{AllByRecursion}
 use Rattle.std.specs.Str.{bytes_eq, all_ascii_digits}
 use Rattle.std.specs.Char.{is_ascii_digit}
 use Rattle.std.proofs.lemmas.Slice.Eq.{bytes_eq-Decides}
@@ -102,7 +102,7 @@ twelve (t0 ∷ t1 ∷ t2 ∷ t3 ∷ t4 ∷ t5 ∷ t6 ∷ t7 ∷ t8 ∷ t9 ∷ t1
 
 -- the words are those of the figures, and the figures are short
 abbrev Made : List Text → Figures → Type 0
-Made vs x = (vs ≡ map decimal (amounts x) ++ signed_decimal x.index.0 ∷ []) × All (λ m. m < 1000000000) (nat_abs x.index.0 ∷ amounts x)
+Made vs x = (vs ≡ map decimal (amounts x) ++ signed_decimal x.index.0 ∷ []) × AllByRecursion (λ m. m < 1000000000) (nat_abs x.index.0 ∷ amounts x)
 
 closing_ok : (n : ℕ) (vs : List Text) (x : Figures) → length vs ≡ 12 → closing_of n vs ≡ Ok x → Made vs x
 closing_ok n vs x h =
@@ -156,12 +156,12 @@ signed_short : (z : ℤ) → nat_abs z < 1000000000 → length (signed_decimal z
 signed_short (pos n) h = omega (arith, decimal_short n h)
 signed_short (negsuc n) h = omega (arith, decimal_short (suc n) h)
 
-decimals_lack : (ns : List ℕ) (t : Text) → All (λ m. m < 1000000000) ns → Lacks space t → All (Lacks space) (map decimal ns ++ t ∷ [])
+decimals_lack : (ns : List ℕ) (t : Text) → AllByRecursion (λ m. m < 1000000000) ns → Lacks space t → AllByRecursion (Lacks space) (map decimal ns ++ t ∷ [])
 decimals_lack [] t h k = (k, tt)
 decimals_lack (m ∷ ns) t h k = (digits_lack (decimal m) (decimal_digits m h.0), decimals_lack ns t h.1 k)
 
 -- ten bytes for each number, its space with it
-decimals_short : (w : Text) (ns : List ℕ) (t : Text) → All (λ m. m < 1000000000) ns → length (spaced (w ∷ map decimal ns ++ t ∷ [])) ≤ length w + (10 * length ns + (1 + length t))
+decimals_short : (w : Text) (ns : List ℕ) (t : Text) → AllByRecursion (λ m. m < 1000000000) ns → length (spaced (w ∷ map decimal ns ++ t ∷ [])) ≤ length w + (10 * length ns + (1 + length t))
 decimals_short w [] t h = simp length-append (omega arith)
 decimals_short w (m ∷ ns) t h =
     let rest = decimals_short (decimal m) ns t h.1 in
@@ -174,7 +174,7 @@ number_ok n h = (reads (decimal n)).all n (record { small = h; digits = refl })
 signed_of_ok : (z : ℤ) → nat_abs z < 1000000000 → signed_of (signed_decimal z) ≡ Some z
 signed_of_ok z h = (reads_signed (signed_decimal z)).all z (record { small = h; digits = refl })
 
-words_ok : (n : ℕ) (x : Figures) → All (λ m. m < 1000000000) (nat_abs x.index.0 ∷ amounts x) → close_of n (closing_words x) ≡ Ok x
+words_ok : (n : ℕ) (x : Figures) → AllByRecursion (λ m. m < 1000000000) (nat_abs x.index.0 ∷ amounts x) → close_of n (closing_words x) ≡ Ok x
 words_ok n x k =
     rw (number_ok x.operating.0 k.1.0, number_ok x.depreciation.0 k.1.1.0, number_ok x.assets.0 k.1.1.1.0, number_ok x.rate.0 k.1.1.1.1.0, number_ok x.delivered.0 k.1.1.1.1.1.0, number_ok x.loss.0 k.1.1.1.1.1.1.0, number_ok x.price.0 k.1.1.1.1.1.1.1.0, number_ok x.nonstandard.0 k.1.1.1.1.1.1.1.1.0, number_ok x.other.0 k.1.1.1.1.1.1.1.1.1.0, number_ok x.justified.0 k.1.1.1.1.1.1.1.1.1.1.0, number_ok x.realised.0 k.1.1.1.1.1.1.1.1.1.1.1.0, signed_of_ok x.index.0 k.0)
 

@@ -1,6 +1,6 @@
 -- A word is the part of the sheet at its place.
 use Rattle.std.proofs.Common.{◌≡◌, ℕ, suc, ◌+◌, ◌≤◌, Bool, true, false, cond, eqb, List, [], ◌∷◌, ◌++◌, map, length, take, drop, sym, refl, ap, ◌∙◌, subst, arith}
-use Rattle.std.specs.List.{AllByRecursion as All}
+use Rattle.std.specs.List.{AllByRecursion}
 use Rattle.std.proofs.lemmas.List.{drop-drop, length-drop, take-append-drop}
 use Rattle.lines.specs.declared.words.Word.{Word}
 use Rattle.lines.specs.Bytes.{Text, part}
@@ -40,29 +40,29 @@ module _ (sheet : Text) where
     ap (take (suc (length w))) e ∙ ap (λ l. b ∷ take (length w) l) (sym (next at b bs e)) ∙ ap (λ l. b ∷ l) s.1,
   )
 
-  onto : (at b : ℕ) (bs : Text) (ws : List Text) → drop at sheet ≡ b ∷ bs → All Stands (placed (at + 1) ws) → All Stands (placed at (onto_first b ws))
+  onto : (at b : ℕ) (bs : Text) (ws : List Text) → drop at sheet ≡ b ∷ bs → AllByRecursion Stands (placed (at + 1) ws) → AllByRecursion Stands (placed at (onto_first b ws))
   onto at b bs [] e h = (front at b bs [] e (omega (arith, longer at b bs e), refl), tt)
   onto at b bs (w ∷ ws) e h =
-      (front at b bs w e h.0, subst (λ k. All Stands (placed k ws)) (same (length w)) h.1)
+      (front at b bs w e h.0, subst (λ k. AllByRecursion Stands (placed k ws)) (same (length w)) h.1)
     where
       same : (k : ℕ) → at + 1 + k + 1 ≡ at + suc k + 1
       same k = omega arith
 
-  pub stand : (line rest : Text) (at : ℕ) → at ≤ length sheet → drop at sheet ≡ line ++ rest → All Stands (placed at (words line))
+  pub stand : (line rest : Text) (at : ℕ) → at ≤ length sheet → drop at sheet ≡ line ++ rest → AllByRecursion Stands (placed at (words line))
   stand [] rest at le e = ((omega arith, refl), tt)
   stand (b ∷ bs) rest at le e = by (eqb b 32) (stand bs rest (at + 1) (longer at b (bs ++ rest) e) (next at b (bs ++ rest) e))
     where
       zero_word : at + 1 ≡ at + 0 + 1
       zero_word = omega arith
 
-      by : (t : Bool) → All Stands (placed (at + 1) (words bs)) → All Stands (placed at (cond t ([] ∷ words bs) (onto_first b (words bs))))
-      by true h = ((omega arith, refl), subst (λ k. All Stands (placed k (words bs))) zero_word h)
+      by : (t : Bool) → AllByRecursion Stands (placed (at + 1) (words bs)) → AllByRecursion Stands (placed at (cond t ([] ∷ words bs) (onto_first b (words bs))))
+      by true h = ((omega arith, refl), subst (λ k. AllByRecursion Stands (placed k (words bs))) zero_word h)
       by false h = onto at b (bs ++ rest) (words bs) e h
 
-  all_seen : (v : List Word) → All Stands (map seen v) → All (PartOf sheet) v
+  all_seen : (v : List Word) → AllByRecursion Stands (map seen v) → AllByRecursion (PartOf sheet) v
   all_seen [] h = tt
   all_seen (w ∷ v) h = (record { inside = h.0.0; same = h.0.1 }, all_seen v h.1)
 
-  pub parts : (at len : ℕ) (line : Text) (v : List Word) → line ≡ part sheet at len → at + len ≤ length sheet → map seen v ≡ placed at (words line) → All (PartOf sheet) v
+  pub parts : (at len : ℕ) (line : Text) (v : List Word) → line ≡ part sheet at len → at + len ≤ length sheet → map seen v ≡ placed at (words line) → AllByRecursion (PartOf sheet) v
   parts at len line v is le e =
-      all_seen v (subst (All Stands) (sym e) (stand line (drop len (drop at sheet)) at (omega arith) (sym (take-append-drop len (drop at sheet)) ∙ ap (λ l. l ++ drop len (drop at sheet)) (sym is))))
+      all_seen v (subst (AllByRecursion Stands) (sym e) (stand line (drop len (drop at sheet)) at (omega arith) (sym (take-append-drop len (drop at sheet)) ∙ ap (λ l. l ++ drop len (drop at sheet)) (sym is))))

@@ -1,6 +1,6 @@
 -- The lines of a sheet: the first of them, and that they alone make it up.
 use Rattle.std.proofs.Common.{◌≡◌, ℕ, suc, ◌+◌, ◌<◌, ◌≤◌, Bool, true, false, cond, eqb, ltb, List, [], ◌∷◌, ◌++◌, length, take, drop, sym, refl, ap, ◌∙◌, ⊎_elim, add-one, arith}
-use Rattle.std.specs.List.{AllByRecursion as All}
+use Rattle.std.specs.List.{AllByRecursion}
 use Rattle.std.proofs.lemmas.List.{length-drop, drop-drop, take_all, drop_all}
 use Rattle.std.proofs.lemmas.Bool.{cases_lt, lt-ltb, le-ltb, eqb-true, eqb-false, ne_eqb}
 use Rattle.lines.specs.Bytes.{Text, line_feed, before, part, Lacks}
@@ -67,7 +67,7 @@ lines_join (b ∷ bs) = go (eqb b 10) refl (lines_join bs)
     go false e ih = rw e (with_joined b (lines bs) ∙ ap (λ l. b ∷ l) ih)
 
 abbrev Unbroken : List Raw → Type 0
-Unbroken ls = All (λ l. Lacks line_feed l.bytes) ls
+Unbroken ls = AllByRecursion (λ l. Lacks line_feed l.bytes) ls
 
 with_lacks : (b : ℕ) (ls : List Raw) → (b ≡ 10 → ⊥) → Unbroken ls → Unbroken (with_byte b ls)
 with_lacks b [] n h = ((n, tt), tt)

@@ -1,6 +1,6 @@
 -- The words of a line: the first of them, and that they alone make it up.
 use Rattle.std.proofs.Common.{◌≡◌, ℕ, suc, ◌+◌, ◌<◌, ◌≤◌, Bool, true, false, cond, eqb, List, [], ◌∷◌, ◌++◌, length, take, drop, sym, refl, ap, ◌∙◌, add-one, arith}
-use Rattle.std.specs.List.{AllByRecursion as All}
+use Rattle.std.specs.List.{AllByRecursion}
 use Rattle.std.proofs.lemmas.List.{length-drop, drop-drop, length-take-le, take_all, append_assoc}
 use Rattle.std.proofs.lemmas.Bool.{eqb-true, eqb-false, ne_eqb}
 use Rattle.lines.specs.Bytes.{Text, space, before, Lacks}
@@ -69,26 +69,26 @@ words_join (b ∷ bs) = go (eqb b 32) refl (words_join bs)
     go true e ih = rw e (spaced_empty (words bs) (some_word bs) ∙ ap (λ l. 32 ∷ l) ih ∙ ap (λ x. x ∷ bs) (sym (eqb-true b 32 e)))
     go false e ih = rw e (spaced_onto b (words bs) (some_word bs) ∙ ap (λ l. b ∷ l) ih)
 
-onto_lacks : (b : ℕ) (ws : List Text) → (b ≡ 32 → ⊥) → All (Lacks space) ws → All (Lacks space) (onto_first b ws)
+onto_lacks : (b : ℕ) (ws : List Text) → (b ≡ 32 → ⊥) → AllByRecursion (Lacks space) ws → AllByRecursion (Lacks space) (onto_first b ws)
 onto_lacks b [] n h = ((n, tt), tt)
 onto_lacks b (w ∷ ws) n h = ((n, h.0), h.1)
 
-words_lack : (bs : Text) → All (Lacks space) (words bs)
+words_lack : (bs : Text) → AllByRecursion (Lacks space) (words bs)
 words_lack [] = (tt, tt)
 words_lack (b ∷ bs) = go (eqb b 32) refl (words_lack bs)
   where
-    go : (t : Bool) → eqb b 32 ≡ t → All (Lacks space) (words bs) → All (Lacks space) (words (b ∷ bs))
+    go : (t : Bool) → eqb b 32 ≡ t → AllByRecursion (Lacks space) (words bs) → AllByRecursion (Lacks space) (words (b ∷ bs))
     go true e ih = rw e (tt, ih)
     go false e ih = rw e (onto_lacks b (words bs) (eqb-false b 32 e) ih)
 
 -- words that lack a space are the words of what they make up
-words_of_spaced : (w : Text) (ws : List Text) → All (Lacks space) (w ∷ ws) → words (spaced (w ∷ ws)) ≡ w ∷ ws
+words_of_spaced : (w : Text) (ws : List Text) → AllByRecursion (Lacks space) (w ∷ ws) → words (spaced (w ∷ ws)) ≡ w ∷ ws
 words_of_spaced [] [] h = refl
 words_of_spaced [] (v ∷ ws) h = ap (λ l. [] ∷ l) (words_of_spaced v ws h.1)
 words_of_spaced (b ∷ w) [] h = rw (ne_eqb b 32 h.0.0) (ap (onto_first b) (words_of_spaced w [] (h.0.1, h.1)))
 words_of_spaced (b ∷ w) (v ∷ ws) h = rw (ne_eqb b 32 h.0.0) (ap (onto_first b) (words_of_spaced w (v ∷ ws) (h.0.1, h.1)))
 
-only_words : (bs : Text) (vs : List Text) → 0 < length vs → All (Lacks space) vs → spaced vs ≡ bs → vs ≡ words bs
+only_words : (bs : Text) (vs : List Text) → 0 < length vs → AllByRecursion (Lacks space) vs → spaced vs ≡ bs → vs ≡ words bs
 only_words bs [] some h e = absurd (omega arith)
 only_words bs (w ∷ ws) some h e = sym (words_of_spaced w ws h) ∙ ap words e
 

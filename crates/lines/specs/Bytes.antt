@@ -1,6 +1,6 @@
 -- The bytes that a sheet is made of, and parts of it.
 use Rattle.std.specs.Prelude.{◌≡◌, ℕ, cond, List, [], ◌∷◌, take, drop, ◌==◌, ◌≢◌}
-use Rattle.std.specs.List.{AllByRecursion as All}
+use Rattle.std.specs.List.{AllByRecursion}
 
 -- bytes in a row: a sheet, a line or a word
 abbrev pub Text : Type 0
@@ -30,4 +30,4 @@ part sheet at k = take k (drop at sheet)
 
 -- no byte of the text is s
 abbrev pub Lacks : ℕ → Text → Type 0
-Lacks s bs = All (λ b. b ≢ s) bs
+Lacks s bs = AllByRecursion (λ b. b ≢ s) bs

@@ -1,7 +1,7 @@
 -- The line that asks for a closing, in other words than those of its reading.
 use Rattle.std.specs.Prelude.{◌≡◌, ℕ, ◌<◌, true, List, [], ◌∷◌, ◌++◌, map, Ok, codes, decimal, Result, unsigned_abs}
 use Rattle.std.specs.Fmt.{signed_decimal}
-use Rattle.std.specs.List.{AllByRecursion as All}
+use Rattle.std.specs.List.{AllByRecursion}
 use Rattle.revenue.specs.declared.figures.Figures.{Figures}
 use Rattle.lines.specs.declared.faults.SheetFault.{SheetFault}
 use Rattle.lines.specs.Bytes.{Text}
@@ -25,7 +25,7 @@ closing_words x = codes "close" ∷ map decimal (amounts x) ++ signed_decimal x.
 pub record AsksFor (l : Raw) (x : Figures) : Type 0 where
   pub ended : l.ended ≡ true
   pub text : l.bytes ≡ spaced (closing_words x)
-  pub short : All (λ n. n < ten_digits) (unsigned_abs x.index.0 ∷ amounts x)
+  pub short : AllByRecursion (λ n. n < ten_digits) (unsigned_abs x.index.0 ∷ amounts x)
 
 -- The figures come back exactly where the line asks for a closing with them, unless memory is wanting.
 pub record ReadsClosing (l : Raw) (r : Result Figures SheetFault) : Type 0 where

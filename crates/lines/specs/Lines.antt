@@ -1,6 +1,6 @@
 -- The lines of a sheet.
 use Rattle.std.specs.Prelude.{◌≡◌, ℕ, ◌<◌, Bool, true, false, cond, List, [], ◌∷◌, ◌++◌, length, ◌==◌}
-use Rattle.std.specs.List.{AllByRecursion as All}
+use Rattle.std.specs.List.{AllByRecursion}
 use Rattle.lines.specs.Bytes.{Text, line_feed, Lacks}
 
 -- A line without its line feed, and whether it had one.
@@ -35,7 +35,7 @@ Ended (l ∷ m ∷ ls) = (l.ended ≡ true) × Ended (m ∷ ls)
 -- The lines make up the sheet: joined they give its bytes, and no line goes on over a line feed.
 pub record MakeSheet (sheet : Text) (ls : List Raw) : Type 0 where
   pub joined : joined_lines ls ≡ sheet
-  pub unbroken : All (λ l. Lacks line_feed l.bytes) ls
+  pub unbroken : AllByRecursion (λ l. Lacks line_feed l.bytes) ls
   pub ended : Ended ls
 
 -- These lines make up the sheet, and no others do.

@@ -1,6 +1,6 @@
 -- The words of a line.
 use Rattle.std.specs.Prelude.{◌≡◌, ℕ, ◌+◌, ◌<◌, cond, List, [], ◌∷◌, ◌++◌, length, ◌==◌}
-use Rattle.std.specs.List.{AllByRecursion as All}
+use Rattle.std.specs.List.{AllByRecursion}
 use Rattle.lines.specs.Bytes.{Text, space, Lacks}
 
 -- a byte before the first word
@@ -27,7 +27,7 @@ spaced (w ∷ v ∷ ws) = w ++ (space ∷ spaced (v ∷ ws))
 -- The words make up the line: there is one at least, none has a space, and with one space between each two they give its bytes.
 pub record MakeLine (line : Text) (ws : List Text) : Type 0 where
   pub some : 0 < length ws
-  pub unspaced : All (Lacks space) ws
+  pub unspaced : AllByRecursion (Lacks space) ws
   pub joined : spaced ws ≡ line
 
 -- These words make up the line, and no others do.

@@ -1,6 +1,6 @@
 -- What holds of all closings of a book together.
 use Rattle.std.specs.Prelude.{◌≡◌, ◌+◌, ◌*◌, ◌<◌, ◌≤◌, List, [], ◌∷◌, ◌++◌, ℤ, pos, ◌+ℤ◌, Ok, Err, Result, ◌≢◌, unsigned_abs}
-use Rattle.std.specs.List.{AllByRecursion as All}
+use Rattle.std.specs.List.{AllByRecursion}
 use Rattle.terms.specs.Refusals.{NoneBroken}
 use Rattle.terms.specs.declared.faults.BookFault.{BookFault}
 use Rattle.revenue.specs.declared.figures.Figures.{Figures}
@@ -33,7 +33,7 @@ pub record Limited (c : Closing) : Type 0 where
 pub record Balanced (closings : List Closing) (carried : ℤ) : Type 0 where
   -- the corrections add up to what was taken in and what is still carried
   pub adds : corrections closings ≡ amounts closings +ℤ carried
-  pub limits : All Limited closings
+  pub limits : AllByRecursion Limited closings
 
 -- A closing on this carried amount goes on from any closings that were accepted before it, and they and it balance.
 abbrev pub Continues : ℤ → Result Closing BookFault → Type 0

@@ -1,5 +1,5 @@
 use Rattle.std.proofs.Common.{◌≡◌, ◌<◌, ◌≤◌, length, ◌∙◌, subst, rules}
-use Rattle.std.specs.List.{AllByRecursion as All}
+use Rattle.std.specs.List.{AllByRecursion}
 use Rattle.std.proofs.ByRecursion.{All-more}
 use Rattle.std.proofs.lemmas.List.{take_all}
 use Rattle.book.specs.Records.{blank}
@@ -14,4 +14,4 @@ pub returns : goal.returns
 returns c =
     let l : length c.held-points.result.now ≤ c.loop-i.i = search rules in
     let e = take_all c.loop-i.i c.held-points.result.now l ∙ c.held-points.ensures.value in
-    subst (All (λ r. r.number ≡ c.args.number → ⊥)) e c.loop-i.invariant
+    subst (AllByRecursion (λ r. r.number ≡ c.args.number → ⊥)) e c.loop-i.invariant
