@@ -1,5 +1,6 @@
 -- The laws of a trunk.
-use Rattle.std.specs.Prelude.{◌≡◌, ℕ, ◌+◌, ◌<◌, ◌≤◌, List, length, Some, slice_index}
+use Rattle.std.specs.Prelude.{◌≡◌, ℕ, ◌+◌, ◌<◌, ◌≤◌, List, length, Some, slice_index, Vec, vec_len}
+use Rattle.std.specs.declared.alloc.Global.{Global}
 use Rattle.std.proofs.Common.{ap, ◌∙◌, arith}
 use Rattle.std.proofs.lemmas.Bool.Decides.{nat_tests}
 use Rattle.network.specs.Limits.{bottom_stations, longest}
@@ -32,3 +33,7 @@ module _ (ps : List ℕ) (some : 1 ≤ length ps) (few : length ps ≤ bottom_st
     mirror = mirror;
     detour = detour;
   }
+
+-- the same of positions in a vector
+pub held_lawful : (v : Vec ℕ Global) → 1 ≤ vec_len v → vec_len v ≤ bottom_stations → ((k : ℕ) → k < vec_len v → slice_index v.items k ≤ longest) → Lawful (trunk_net v.items)
+held_lawful v some few low = trunk_lawful v.items (omega arith) (omega arith) (λ k h. low k (omega arith))

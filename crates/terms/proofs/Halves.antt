@@ -1,5 +1,5 @@
 -- The laws of division to the nearest whole. What callers use of `nearest` is here.
-use Rattle.std.proofs.Common.{◌≡◌, ℕ, ◌+◌, ◌*◌, ◌/◌, ◌%◌, ◌<◌, ◌≤◌, ltb, ap, inl, inr, mul-le-mul_right, mod-lt, mul-le-mul_left, div-le_self, arith}
+use Rattle.std.proofs.Common.{◌≡◌, ℕ, ◌+◌, ◌*◌, ◌/◌, ◌%◌, ◌^◌, ◌<◌, ◌≤◌, ltb, ap, inl, inr, mul-le-mul_right, mod-lt, mul-le-mul_left, div-le_self, arith}
 use native.Mathlib.Nat.{div-add-mod}
 use Rattle.std.proofs.lemmas.Bool.{cond_both, ltb-true, ltb-false, cases_order, cases_lt}
 use Rattle.terms.specs.Rounding.{carry, nearest, Within, HalfUp}
@@ -71,3 +71,12 @@ carried_le n d c h k =
 pub nearest_le : (n d : ℕ) → 0 < d → nearest n d ≤ n
 unfolding nearest
 nearest_le n d h = carried_le n d (carry (n / d) (n % d) d) h (carries (n / d) (n % d) d)
+
+-- a quotient of 64 bits with a carry has 64 bits, whatever the remainder was
+pub carried_fits : (n d r c : ℕ) → 0 < d → r < d → n < 2 ^ 64 → c ≡ carry (n / d) r d → n / d + c < 2 ^ 64
+carried_fits n d r c h k fits e =
+    let s = carries (n / d) r d in
+    elim (cases_lt 1 d) [
+      | inl l ↦ let m : n / d * 2 ≤ n / d * d = mul-le-mul_left (n / d) l in omega (arith, s.few, div-add-mod n d)
+      | inr g ↦ let z : carry (n / d) r d ≡ 0 = s.down (omega arith) in omega (arith, div-le_self n d)
+    ]

@@ -3,8 +3,7 @@ ghost use Rattle.network.specs.Limits.{longest};
 ghost use Rattle.network.specs.Rules.{First, Made};
 ghost use Rattle.network.specs.Trunk.{trunk_net, trunk_rules};
 ghost use Rattle.network.specs.Meanings.{of_trunk};
-ghost use Rattle.std.proofs.Common.{arith};
-ghost use Rattle.network.specs.Trunks.{trunk_lawful};
+ghost use Rattle.network.specs.Trunks.{held_lawful};
 
 use super::Trunk;
 use crate::limits::{BOTTOM_STATIONS, LONGEST};
@@ -46,7 +45,7 @@ impl Trunk {
 impl Source for Trunk {
     ghost net = { of_trunk };
 
-    ghost lawful = { λ s. trunk_lawful s.positions.items (omega arith) (omega arith) (λ k h. s.low k (omega arith)) };
+    ghost lawful = { λ s. held_lawful s.positions s.some s.few s.low };
 
     fn stations(&self) -> u32 {
         self.positions.len() as u32

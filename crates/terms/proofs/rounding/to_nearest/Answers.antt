@@ -1,6 +1,6 @@
-use Rattle.std.proofs.Common.{◌≡◌, ℕ, ◌+◌, ◌/◌, ◌%◌, ◌<◌, ◌≤◌, sym, ap, ◌∙◌, subst, rules}
+use Rattle.std.proofs.Common.{◌≡◌, ℕ, ◌+◌, ◌/◌, ◌%◌, ◌^◌, ◌<◌, ◌≤◌, sym, ap, ◌∙◌, subst, mod-lt, arith}
 use Rattle.terms.specs.Rounding.{carry, nearest, Within, HalfUp}
-use Rattle.terms.proofs.Halves.{nearest_le, nearest_within, nearest_half_up}
+use Rattle.terms.proofs.Halves.{carried_fits, nearest_le, nearest_within, nearest_half_up}
 use Rattle.terms.proofs.rounding.to_nearest.Goals as goal
 
 -- the quotient and what is added to it
@@ -10,12 +10,10 @@ sum_is n d e k p h = ap (λ x. n / d + x) h ∙ ap (λ x. n / x + carry (n / x) 
 
 pub overflow_add-result : goal.overflow_add-result
 overflow_add-result c =
-    let n = c.args.n in
-    let d = c.get-d.result in
-    let some : 0 < d = c.get-d.ensures.some in
-    let is : n / d + c.half_up.result ≡ nearest n d = sum_is n d d c.half_up.result (search rules) c.half_up.ensures in
-    let le : nearest n d ≤ n = nearest_le n d some in
-    search (rules, is, le)
+    let some : 0 < c.get-d.result = c.get-d.ensures.some in
+    let fits : c.args.n < 2 ^ 64 = omega arith in
+    let sum = carried_fits _ _ _ _ some (mod-lt _ some) fits c.half_up.ensures in
+    omega arith
 
 pub returns : goal.returns
 returns c =
