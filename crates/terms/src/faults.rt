@@ -1,14 +1,45 @@
 // Why a source or a book refuses. An upper part keeps a lower fault whole inside its own.
 ghost use Rattle.std.specs.Prelude.{◌≡◌};
 ghost use Rattle.terms.specs.Faults.{figure_number, source_refusal, book_refusal};
+ghost use Rattle.terms.specs.declared.faults.SourceFault.TheVariants.{NoMemory};
 ghost use Rattle.terms.specs.declared.faults.BookFault.TheVariants.{Source};
+ghost use Rattle.terms.specs.declared.refusals.Refusal.{Refusal};
 
 use crate::refusals::{Part, Refusal};
+use std::alloc::AllocError;
+
+// A fault tells the rule that was broken, the part that says so, and the place.
+pub trait Fault: Copy {
+    // what the rules say that it tells
+    ghost told: { Self → Refusal };
+
+    fn refusal(self) -> Refusal
+        ensures { result ≡ told self };
+
+    // The number of the rule that is broken, or 0 for want of memory.
+    final fn number(self) -> u32
+        ensures { result ≡ (told self).number }
+    {
+        self.refusal().number
+    }
+
+    final fn part(self) -> Part
+        ensures { result ≡ (told self).part }
+    {
+        self.refusal().part
+    }
+
+    final fn place(self) -> usize
+        ensures { result ≡ (told self).place }
+    {
+        self.refusal().place
+    }
+}
 
 // The twelve figures of a closing, in the order in which they are given.
 #[derive(Clone, Copy, PartialEq, Eq, Debug)]
 pub enum ClosingFigure {
-    Operating,
+    Operating = 1,
     Depreciation,
     Assets,
     Rate,
@@ -57,6 +88,14 @@ pub enum BookFault {
     NoTariff,
 }
 
+impl From<AllocError> for SourceFault {
+    ghost from_gives = { λ _ r. r ≡ NoMemory };
+
+    fn from(_e: AllocError) -> SourceFault {
+        SourceFault::NoMemory
+    }
+}
+
 impl From<SourceFault> for BookFault {
     ghost from_gives = { λ e r. r ≡ Source e };
 
@@ -70,118 +109,56 @@ impl ClosingFigure {
     pub fn number(self) -> usize
         ensures { result ≡ figure_number self }
     {
-        match self {
-            ClosingFigure::Operating => 1,
-            ClosingFigure::Depreciation => 2,
-            ClosingFigure::Assets => 3,
-            ClosingFigure::Rate => 4,
-            ClosingFigure::Delivered => 5,
-            ClosingFigure::Loss => 6,
-            ClosingFigure::GasPrice => 7,
-            ClosingFigure::NonStandard => 8,
-            ClosingFigure::OtherRevenue => 9,
-            ClosingFigure::Justified => 10,
-            ClosingFigure::Realised => 11,
-            ClosingFigure::Index => 12,
-        }
+        self as usize
     }
 }
 
-impl SourceFault {
-    // The number of the rule that is broken, or 0 for want of memory.
-    pub fn number(self) -> u32
-        ensures { result ≡ (source_refusal self).number }
-    {
-        match self {
-            SourceFault::NoStation => 3,
-            SourceFault::WrongCount => 18,
-            SourceFault::BadFigure(_) => 19,
-            SourceFault::NoMemory => 0,
-        }
-    }
+impl Fault for SourceFault {
+    ghost told = { source_refusal };
 
-    pub fn part(self) -> Part
-        ensures { result ≡ (source_refusal self).part }
-    {
-        Part::Source
-    }
-
-    pub fn place(self) -> usize
-        ensures { result ≡ (source_refusal self).place }
-    {
-        match self {
-            SourceFault::BadFigure(index) => index,
-            _ => 0,
-        }
-    }
-
-    pub fn refusal(self) -> Refusal
-        ensures { result ≡ source_refusal self }
-    {
-        Refusal {
-            number: self.number(),
-            part: self.part(),
-            place: self.place(),
-        }
-    }
-}
-
-impl BookFault {
-    // The number of the rule that is broken, or 0 for want of memory.
-    pub fn number(self) -> u32
-        ensures { result ≡ (book_refusal self).number }
-    {
-        match self {
-            BookFault::Source(fault) => fault.number(),
-            BookFault::KindNotOfSide => 1,
-            BookFault::SideFull => 2,
-            BookFault::NoStation => 3,
-            BookFault::NoDistance => 4,
-            BookFault::TooFar => 5,
-            BookFault::NoPoint => 6,
-            BookFault::TooManyLots => 7,
-            BookFault::ReliefTooHigh => 8,
-            BookFault::OutOfRange(_) => 9,
-            BookFault::BaseBelowZero => 10,
-            BookFault::CarriedTooLarge => 11,
-            BookFault::AllowedTooLarge => 12,
-            BookFault::NoEntryShares => 13,
-            BookFault::NoExitShares => 14,
-            BookFault::NoProduct => 15,
-            BookFault::MultiplierOutOfRange => 16,
-            BookFault::NoTariff => 17,
-        }
-    }
-
-    pub fn part(self) -> Part
-        ensures { result ≡ (book_refusal self).part }
-    {
-        match self {
-            BookFault::Source(fault) => fault.part(),
-            _ => Part::Book,
-        }
-    }
-
-    pub fn place(self) -> usize
-        ensures { result ≡ (book_refusal self).place }
-    {
-        match self {
-            BookFault::Source(fault) => fault.place(),
-            BookFault::OutOfRange(figure) => figure.number(),
-            _ => 0,
-        }
-    }
-
-    pub fn refusal(self) -> Refusal
-        ensures { result ≡ book_refusal self }
-    {
-        let number = self.number();
-        let part = self.part();
-        let place = self.place();
+    fn refusal(self) -> Refusal {
+        let (number, index) = match self {
+            SourceFault::NoStation => (3, 0),
+            SourceFault::WrongCount => (18, 0),
+            SourceFault::BadFigure(index) => (19, index),
+            SourceFault::NoMemory => (0, 0),
+        };
         Refusal {
             number,
-            part,
-            place,
+            part: Part::Source,
+            place: index,
+        }
+    }
+}
+
+impl Fault for BookFault {
+    ghost told = { book_refusal };
+
+    fn refusal(self) -> Refusal {
+        let (number, figure) = match self {
+            BookFault::Source(fault) => return fault.refusal(),
+            BookFault::KindNotOfSide => (1, 0),
+            BookFault::SideFull => (2, 0),
+            BookFault::NoStation => (3, 0),
+            BookFault::NoDistance => (4, 0),
+            BookFault::TooFar => (5, 0),
+            BookFault::NoPoint => (6, 0),
+            BookFault::TooManyLots => (7, 0),
+            BookFault::ReliefTooHigh => (8, 0),
+            BookFault::OutOfRange(figure) => (9, figure.number()),
+            BookFault::BaseBelowZero => (10, 0),
+            BookFault::CarriedTooLarge => (11, 0),
+            BookFault::AllowedTooLarge => (12, 0),
+            BookFault::NoEntryShares => (13, 0),
+            BookFault::NoExitShares => (14, 0),
+            BookFault::NoProduct => (15, 0),
+            BookFault::MultiplierOutOfRange => (16, 0),
+            BookFault::NoTariff => (17, 0),
+        };
+        Refusal {
+            number,
+            part: Part::Book,
+            place: figure,
         }
     }
 }

@@ -1,7 +1,6 @@
 //! The words that every part of the book uses: measures, sides and kinds, rounding, and the faults with their numbers.
 #![tactic(auto)]
 
-pub mod divisor;
 pub mod faults;
 pub mod measures;
 pub mod points;

@@ -1,7 +1,9 @@
 // The sides of the grid, the kinds of points, and the letters that write them.
-ghost use Rattle.std.specs.Prelude.{◌≡◌};
+ghost use Rattle.std.specs.Prelude.{◌≡◌, Some, [], ◌∷◌};
 ghost use Rattle.terms.specs.Points.{side_letter, side_of, kind_letter, kind_of, of_side};
-ghost use Rattle.terms.specs.Letters.{Spells};
+ghost use Rattle.terms.specs.Letters.{Reads};
+
+use std::fmt;
 
 // Where gas comes in, and where it goes out.
 #[derive(Clone, Copy, PartialEq, Eq, Debug)]
@@ -20,57 +22,45 @@ pub enum Kind {
     Interconnector,
 }
 
-impl Side {
-    pub fn letter(self) -> char
-        ensures { result ≡ side_letter self }
-    {
-        match self {
+// A letter that writes nothing of the kind that was asked for.
+#[derive(Clone, Copy, PartialEq, Eq, Debug)]
+pub struct UnknownLetter(pub char);
+
+impl From<Side> for char {
+    ghost from_gives = { λ side c. c ≡ side_letter side };
+
+    fn from(side: Side) -> char {
+        match side {
             Side::Entry => 'E',
             Side::Exit => 'X',
         }
     }
+}
 
-    // The side that a letter writes.
-    pub fn from_letter(c: char) -> Option<Side>
-        ensures value { result ≡ side_of c }
-        ensures spells { Spells side_letter c result }
-    {
+// The side that a letter writes.
+impl TryFrom<char> for Side {
+    type Error = UnknownLetter;
+
+    ghost try_from_gives = { Reads side_letter side_of };
+
+    fn try_from(c: char) -> Result<Side, UnknownLetter> {
         match c {
-            'E' => Some(Side::Entry),
-            'X' => Some(Side::Exit),
-            _ => None,
+            'E' => Ok(Side::Entry),
+            'X' => Ok(Side::Exit),
+            _ => Err(UnknownLetter(c)),
         }
     }
 }
 
+impl fmt::Display for Side {
+    ghost output = { λ side. Some (side_letter side ∷ []) };
+
+    fn fmt<W: fmt::Write>(&self, f: &mut fmt::Formatter<W>) -> fmt::Result {
+        f.write_char(char::from(*self))
+    }
+}
+
 impl Kind {
-    pub fn letter(self) -> char
-        ensures { result ≡ kind_letter self }
-    {
-        match self {
-            Kind::Transmission => 'T',
-            Kind::Production => 'P',
-            Kind::Storage => 'S',
-            Kind::Local => 'L',
-            Kind::Interconnector => 'I',
-        }
-    }
-
-    // The kind that a letter writes.
-    pub fn from_letter(c: char) -> Option<Kind>
-        ensures value { result ≡ kind_of c }
-        ensures spells { Spells kind_letter c result }
-    {
-        match c {
-            'T' => Some(Kind::Transmission),
-            'P' => Some(Kind::Production),
-            'S' => Some(Kind::Storage),
-            'L' => Some(Kind::Local),
-            'I' => Some(Kind::Interconnector),
-            _ => None,
-        }
-    }
-
     // Whether a side has points of this kind.
     pub fn is_of(self, side: Side) -> bool
         ensures { result ≡ of_side side self }
@@ -83,5 +73,45 @@ impl Kind {
             (Side::Exit, Kind::Interconnector) => true,
             _ => false,
         }
+    }
+}
+
+impl From<Kind> for char {
+    ghost from_gives = { λ kind c. c ≡ kind_letter kind };
+
+    fn from(kind: Kind) -> char {
+        match kind {
+            Kind::Transmission => 'T',
+            Kind::Production => 'P',
+            Kind::Storage => 'S',
+            Kind::Local => 'L',
+            Kind::Interconnector => 'I',
+        }
+    }
+}
+
+// The kind that a letter writes.
+impl TryFrom<char> for Kind {
+    type Error = UnknownLetter;
+
+    ghost try_from_gives = { Reads kind_letter kind_of };
+
+    fn try_from(c: char) -> Result<Kind, UnknownLetter> {
+        match c {
+            'T' => Ok(Kind::Transmission),
+            'P' => Ok(Kind::Production),
+            'S' => Ok(Kind::Storage),
+            'L' => Ok(Kind::Local),
+            'I' => Ok(Kind::Interconnector),
+            _ => Err(UnknownLetter(c)),
+        }
+    }
+}
+
+impl fmt::Display for Kind {
+    ghost output = { λ kind. Some (kind_letter kind ∷ []) };
+
+    fn fmt<W: fmt::Write>(&self, f: &mut fmt::Formatter<W>) -> fmt::Result {
+        f.write_char(char::from(*self))
     }
 }

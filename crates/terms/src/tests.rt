@@ -1,15 +1,12 @@
-use crate::divisor::Divisor;
-use crate::faults::{BookFault, ClosingFigure, SourceFault};
-use crate::points::{Kind, Side};
+use crate::faults::{BookFault, ClosingFigure, Fault, SourceFault};
+use crate::points::{Kind, Side, UnknownLetter};
 use crate::refusals::{Part, Refusal};
 use crate::rounding::{to_nearest, to_nearest_signed};
+use std::num::NonZeroU64;
 use std::test::Fail;
 
-fn divisor(value: u64) -> Result<Divisor, Fail> {
-    match Divisor::new(value) {
-        Some(by) => Ok(by),
-        None => Err(Fail::new("not a divisor")),
-    }
+fn divisor(value: u64) -> Result<NonZeroU64, Fail> {
+    Ok(NonZeroU64::new(value).ok_or("not a divisor")?)
 }
 
 #[test]
@@ -45,17 +42,17 @@ fn the_largest_numbers_round_without_wrapping(rt: HostRuntime) -> Result<(), Fai
 
 #[test]
 fn nothing_is_divided_by_zero(rt: HostRuntime) {
-    assert_eq!(rt; Divisor::new(0).is_some(), false);
+    assert_eq!(rt; NonZeroU64::new(0).is_some(), false);
 }
 
 #[test]
 fn letters_go_both_ways(rt: HostRuntime) {
-    assert_eq!(rt; Side::from_letter('X'), Some(Side::Exit));
-    assert_eq!(rt; Side::from_letter('S'), None);
-    assert_eq!(rt; Kind::from_letter('I'), Some(Kind::Interconnector));
-    assert_eq!(rt; Kind::from_letter('i'), None);
-    assert_eq!(rt; Kind::Local.letter(), 'L');
-    assert_eq!(rt; Side::Entry.letter(), 'E');
+    assert_eq!(rt; Side::try_from('X'), Ok(Side::Exit));
+    assert_eq!(rt; Side::try_from('S'), Err(UnknownLetter('S')));
+    assert_eq!(rt; Kind::try_from('I'), Ok(Kind::Interconnector));
+    assert_eq!(rt; Kind::try_from('i'), Err(UnknownLetter('i')));
+    assert_eq!(rt; char::from(Kind::Local), 'L');
+    assert_eq!(rt; char::from(Side::Entry), 'E');
 }
 
 #[test]
