@@ -12,30 +12,29 @@ use std::test::Fail;
 use terms::faults::SourceFault;
 use terms::measures::Km;
 
-// What a source is made of, and what it is refused with.
+// So many stations, what a source of them is made of, and what it is refused with.
 #[derive(Drop)]
-struct TrunkCase<'a>(&'a [u32], Option<SourceFault>);
-
-#[derive(Drop)]
-struct TableCase<'a>(u32, &'a [u16], Option<SourceFault>);
-
-#[derive(Drop)]
-struct MapCase<'a>(u32, &'a [Pipe], Option<SourceFault>);
+struct Case<'a, T>(u32, &'a [T], Option<SourceFault>);
 
 #[test]
 fn a_trunk_has_1_to_64_stations_at_up_to_9999_km(rt: HostRuntime) {
     let many = [7; 65];
     let cases = [
-        TrunkCase(&[], Some(SourceFault::WrongCount)),
-        TrunkCase(&[7], None),
-        TrunkCase(&many[0..64], None),
-        TrunkCase(&many, Some(SourceFault::WrongCount)),
-        TrunkCase(&[0, 9_999], None),
-        TrunkCase(&[0, 9_999, 10_000, 10_001], Some(SourceFault::BadFigure(2))),
-        TrunkCase(&[70_000], Some(SourceFault::BadFigure(0))),
+        Case(0, &[], Some(SourceFault::WrongCount)),
+        Case(1, &[7], None),
+        Case(64, &many[0..64], None),
+        Case(65, &many, Some(SourceFault::WrongCount)),
+        Case(2, &[0, 9_999], None),
+        Case(
+            4,
+            &[0, 9_999, 10_000, 10_001],
+            Some(SourceFault::BadFigure(2)),
+        ),
+        Case(1, &[70_000], Some(SourceFault::BadFigure(0))),
     ];
     for case in &cases {
-        assert_eq!(rt; fault(Trunk::new(rt.alloc(), case.0)), case.1);
+        assert_eq!(rt; case.1.len(), case.0 as usize);
+        assert_eq!(rt; fault(Trunk::new(rt.alloc(), case.1)), case.2);
     }
 }
 
@@ -43,11 +42,11 @@ fn a_trunk_has_1_to_64_stations_at_up_to_9999_km(rt: HostRuntime) {
 fn a_table_has_a_row_for_each_of_1_to_64_stations(rt: HostRuntime) {
     let many = [0; 4_225];
     let cases = [
-        TableCase(0, &[], Some(SourceFault::WrongCount)),
-        TableCase(65, &many, Some(SourceFault::WrongCount)),
-        TableCase(64, &many[0..4_096], None),
-        TableCase(64, &many[0..4_095], Some(SourceFault::WrongCount)),
-        TableCase(2, &many[0..5], Some(SourceFault::WrongCount)),
+        Case(0, &[], Some(SourceFault::WrongCount)),
+        Case(65, &many, Some(SourceFault::WrongCount)),
+        Case(64, &many[0..4_096], None),
+        Case(64, &many[0..4_095], Some(SourceFault::WrongCount)),
+        Case(2, &many[0..5], Some(SourceFault::WrongCount)),
     ];
     for case in &cases {
         assert_eq!(rt;
@@ -60,20 +59,20 @@ fn a_table_has_a_row_for_each_of_1_to_64_stations(rt: HostRuntime) {
 #[test]
 fn a_figure_is_a_distance_or_none_and_then_keeps_the_laws(rt: HostRuntime) {
     let cases = [
-        TableCase(2, &[0, 9_999, 9_999, 0], None),
-        TableCase(2, &[0, 65_535, 65_535, 0], None),
-        TableCase(2, &[5, 0, 10_000, 0], Some(SourceFault::BadFigure(2))),
-        TableCase(2, &[0, 65_534, 65_534, 0], Some(SourceFault::BadFigure(1))),
-        TableCase(2, &[0, 3, 3, 1], Some(SourceFault::BadFigure(3))),
-        TableCase(2, &[0, 3, 4, 0], Some(SourceFault::BadFigure(1))),
-        TableCase(2, &[0, 3, 65_535, 0], Some(SourceFault::BadFigure(1))),
-        TableCase(3, &[0, 1, 2, 1, 0, 1, 2, 1, 0], None),
-        TableCase(
+        Case(2, &[0, 9_999, 9_999, 0], None),
+        Case(2, &[0, 65_535, 65_535, 0], None),
+        Case(2, &[5, 0, 10_000, 0], Some(SourceFault::BadFigure(2))),
+        Case(2, &[0, 65_534, 65_534, 0], Some(SourceFault::BadFigure(1))),
+        Case(2, &[0, 3, 3, 1], Some(SourceFault::BadFigure(3))),
+        Case(2, &[0, 3, 4, 0], Some(SourceFault::BadFigure(1))),
+        Case(2, &[0, 3, 65_535, 0], Some(SourceFault::BadFigure(1))),
+        Case(3, &[0, 1, 2, 1, 0, 1, 2, 1, 0], None),
+        Case(
             3,
             &[0, 1, 3, 1, 0, 1, 3, 1, 0],
             Some(SourceFault::BadFigure(2)),
         ),
-        TableCase(
+        Case(
             3,
             &[0, 1, 65_535, 1, 0, 1, 65_535, 1, 0],
             Some(SourceFault::BadFigure(2)),
@@ -91,11 +90,11 @@ fn a_figure_is_a_distance_or_none_and_then_keeps_the_laws(rt: HostRuntime) {
 fn a_map_has_1_to_64_stations_and_at_most_200_pipes(rt: HostRuntime) {
     let many = [pipe(62, 63, 1); 201];
     let cases = [
-        MapCase(0, &[], Some(SourceFault::WrongCount)),
-        MapCase(1, &[], None),
-        MapCase(64, &many[0..200], None),
-        MapCase(64, &many, Some(SourceFault::WrongCount)),
-        MapCase(65, &[], Some(SourceFault::WrongCount)),
+        Case(0, &[], Some(SourceFault::WrongCount)),
+        Case(1, &[], None),
+        Case(64, &many[0..200], None),
+        Case(64, &many, Some(SourceFault::WrongCount)),
+        Case(65, &[], Some(SourceFault::WrongCount)),
     ];
     for case in &cases {
         assert_eq!(rt; fault(PipeMap::new(rt.alloc(), case.0, case.1)), case.2);
@@ -139,14 +138,10 @@ fn a_link_is_refused_for_its_ends_and_then_for_its_length(rt: HostRuntime) -> Re
 #[test]
 fn a_refused_layer_hands_back_what_it_was_to_stand_on(rt: HostRuntime) -> Result<(), Fail> {
     let trunk = Trunk::new(rt.alloc(), &[0, 40, 100])?;
-    let back = match Link::new(trunk, 0, 3, Km(1)) {
-        Ok(_) => return Err(Fail::new("station 3 was taken")),
-        Err(back) => back.below,
-    };
-    let (first, second) = match Pairing::new(back, Trunk::new(rt.alloc(), &[0, 25])?, 2, 2) {
-        Ok(_) => return Err(Fail::new("station 2 of the second was taken")),
-        Err(back) => back.below,
-    };
+    let refused = Link::new(trunk, 0, 3, Km(1)).err();
+    let back = refused.ok_or("station 3 was taken")?.below;
+    let refused = Pairing::new(back, Trunk::new(rt.alloc(), &[0, 25])?, 2, 2).err();
+    let (first, second) = refused.ok_or("station 2 of the second was taken")?.below;
     assert_eq!(rt; first.stations(), 3);
     assert_eq!(rt; second.stations(), 2);
     Ok(())
@@ -195,17 +190,11 @@ fn a_pairing_is_refused_over_1000_stations_and_then_for_its_exchange_stations(
         (40, 0, 40, Some(SourceFault::NoStation)),
     ];
     for (count, x, y, refusal) in cases {
-        let first = Pairing::new(
-            fourteen(rt.alloc())?,
-            Trunk::new(rt.alloc(), &[0; 64])?,
-            0,
-            0,
-        );
+        let last = Trunk::new(rt.alloc(), &[0; 64])?;
+        let first = Pairing::new(fourteen(rt.alloc())?, last, 0, 0).ok();
+        let first = first.ok_or("960 stations were refused")?;
         let second = Trunk::new(rt.alloc(), more.get(0..count).unwrap_or(&more))?;
-        match first {
-            Ok(first) => assert_eq!(rt; layer_fault(Pairing::new(first, second, x, y)), refusal),
-            Err(_) => return Err(Fail::new("960 stations were refused")),
-        }
+        assert_eq!(rt; layer_fault(Pairing::new(first, second, x, y)), refusal);
     }
     Ok(())
 }

@@ -12,10 +12,7 @@ pub(crate) struct Row(pub u32, pub u32, pub Option<u32>);
 // The source gives the distances of the table.
 pub(crate) fn gives<S: Source>(rt: &impl Abort, source: &S, rows: &[Row]) {
     for row in rows {
-        let expected = match row.2 {
-            Some(km) => Some(Km(km)),
-            None => None,
-        };
+        let expected = row.2.map(Km);
         assert_eq!(rt; source.distance(row.0, row.1), expected);
         assert_eq!(rt; source.distance(row.1, row.0), expected);
     }
@@ -31,17 +28,11 @@ pub(crate) fn pipe(from: u32, to: u32, length: u32) -> Pipe {
 
 // The fault, where there is one.
 pub(crate) fn fault<T: Drop>(made: Result<T, SourceFault>) -> Option<SourceFault> {
-    match made {
-        Ok(_) => None,
-        Err(fault) => Some(fault),
-    }
+    made.err()
 }
 
 pub(crate) fn layer_fault<T: Drop, S: Drop>(
     made: Result<T, RefusedLayer<S>>,
 ) -> Option<SourceFault> {
-    match made {
-        Ok(_) => None,
-        Err(refused) => Some(refused.fault),
-    }
+    made.err().map(SourceFault::from)
 }

@@ -1,5 +1,5 @@
 // Built-in figures to look at.
-use anyhow::anyhow;
+use anyhow::Context;
 use network::link::Link;
 use network::map::PipeMap;
 use network::pairing::Pairing;
@@ -46,13 +46,11 @@ fn network(heap: Global) -> Result<Link<Pairing<Trunk, PipeMap>>, SourceFault> {
 }
 
 pub(crate) fn show_distances(rt: &HostRuntime) -> anyhow::Result<()> {
-    match network(rt.alloc()) {
-        Ok(source) => {
-            rt.print(distance_table(rt.alloc(), &source)?)?;
-            Ok(())
-        }
-        Err(_) => Err(anyhow!("the built-in network was not made")),
-    }
+    let source = network(rt.alloc())
+        .ok()
+        .context("the built-in network was not made")?;
+    rt.print(distance_table(rt.alloc(), &source)?)?;
+    Ok(())
 }
 
 fn side(
@@ -62,9 +60,7 @@ fn side(
     storage_lots: u32,
     relief: u32,
 ) -> Option<SidePlan> {
-    let Some(relief) = Relief::new(relief) else {
-        return None;
-    };
+    let relief = Relief::new(relief)?;
     Some(SidePlan {
         weights: Weights {
             main,
@@ -82,15 +78,9 @@ fn side(
 
 // 9,001 thousand dinars over entries of transmission and storage and exits of local consumption and storage.
 fn draft() -> Option<Draft> {
-    let Some(allowed) = Amount::new(Dinars(9_001)) else {
-        return None;
-    };
-    let Some(entries) = side(11_100_000, 2_100_000, 300, 100, 7_500) else {
-        return None;
-    };
-    let Some(exits) = side(12_600_000, 600_000, 350, 50, 5_000) else {
-        return None;
-    };
+    let allowed = Amount::new(Dinars(9_001))?;
+    let entries = side(11_100_000, 2_100_000, 300, 100, 7_500)?;
+    let exits = side(12_600_000, 600_000, 350, 50, 5_000)?;
     draw(allowed, entries, exits).ok()
 }
 
@@ -103,19 +93,11 @@ fn decided(rt: &HostRuntime, draft: Draft) -> anyhow::Result<()> {
     };
     let price = approved.price(Side::Entry, Kind::Transmission, quarter, 125);
     rt.print(approved.lines(rt.alloc())?)?;
-    match price {
-        Ok(steps) => {
-            let steps = steps.0;
-            println!(rt; "E T Q 0 {steps}")?;
-            Ok(())
-        }
-        Err(_) => Err(anyhow!("the built-in price was refused")),
-    }
+    let steps = price.ok().context("the built-in price was refused")?;
+    println!(rt; "E T Q 0 {}", steps.0)?;
+    Ok(())
 }
 
 pub(crate) fn show_tariffs(rt: &HostRuntime) -> anyhow::Result<()> {
-    match draft() {
-        Some(draft) => decided(rt, draft),
-        None => Err(anyhow!("the built-in draw was refused")),
-    }
+    decided(rt, draft().context("the built-in draw was refused")?)
 }

@@ -29,22 +29,14 @@ fn print_sheet(rt: &HostRuntime, sheet: Vec<u8>) -> anyhow::Result<()> {
 }
 
 fn run(rt: &HostRuntime) -> anyhow::Result<()> {
-    let mut args = env::args(rt)?;
-    let _ = args.next();
-    match args.next() {
-        None => print_sheet(rt, read_all(rt.alloc(), rt.stdin())?),
-        Some(word) => {
-            if word.as_str() == "--distances" {
-                return show_distances(rt);
-            }
-            if word.as_str() == "--tariffs" {
-                return show_tariffs(rt);
-            }
-            if word.as_str() == "--book" {
-                return show_book(rt);
-            }
-            print_sheet(rt, read_all(rt.alloc(), fs::open(rt, word.as_str())?)?)
-        }
+    let Some(word) = env::args(rt)?.nth(1) else {
+        return print_sheet(rt, read_all(rt.alloc(), rt.stdin())?);
+    };
+    match word.as_str() {
+        "--distances" => show_distances(rt),
+        "--tariffs" => show_tariffs(rt),
+        "--book" => show_book(rt),
+        path => print_sheet(rt, read_all(rt.alloc(), fs::open(rt, path)?)?),
     }
 }
 

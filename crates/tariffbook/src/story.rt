@@ -1,5 +1,5 @@
 // A book at work: a draw that is refused in the middle of its calls leaves no trace.
-use anyhow::anyhow;
+use anyhow::Context;
 use book::{Book, replay};
 use network::link::Link;
 use network::pairing::Pairing;
@@ -52,9 +52,11 @@ fn shared(side: SideFigures) -> u64 {
 }
 
 fn print_drawn(rt: &HostRuntime, figures: TariffFigures) -> io::Result<()> {
-    let entries = shared(figures.entries);
-    let exits = shared(figures.exits);
-    println!(rt; "drawn: entries bear {entries}, exits {exits}")
+    println!(rt;
+        "drawn: entries bear {}, exits {}",
+        shared(figures.entries),
+        shared(figures.exits)
+    )
 }
 
 fn print_outcome(rt: &HostRuntime, outcome: Result<Answer, BookFault>) -> io::Result<()> {
@@ -62,26 +64,17 @@ fn print_outcome(rt: &HostRuntime, outcome: Result<Answer, BookFault>) -> io::Re
         Ok(Answer::Opened(number)) => println!(rt; "opened {number}"),
         Ok(Answer::Done) => println!(rt; "done"),
         Ok(Answer::Closed(closing)) => {
-            let allowed = closing.allowed.0;
-            let rest = closing.rest.0;
-            println!(rt; "R {allowed} {rest}")
+            println!(rt; "R {} {}", closing.allowed.0, closing.rest.0)
         }
         Ok(Answer::Drawn(figures)) => print_drawn(rt, figures),
-        Err(fault) => {
-            let number = fault.number();
-            println!(rt; "refused {number}")
-        }
+        Err(fault) => println!(rt; "refused {}", fault.number()),
     }
 }
 
 fn print_decision(rt: &HostRuntime, book: Book<Grid>) -> anyhow::Result<()> {
-    match book.draw() {
-        Ok(draft) => {
-            rt.print(draft.approve().lines(rt.alloc())?)?;
-            Ok(())
-        }
-        Err(_) => Err(anyhow!("the built-in draw was refused")),
-    }
+    let draft = book.draw().ok().context("the built-in draw was refused")?;
+    rt.print(draft.approve().lines(rt.alloc())?)?;
+    Ok(())
 }
 
 // The transmission entry is planned down to nothing, which leaves entries without exact shares, and up again.
@@ -104,15 +97,15 @@ fn tell(rt: &HostRuntime, source: Grid) -> anyhow::Result<()> {
         Call::Draw,
     ];
     let (book, outcomes) = replay(rt.alloc(), source, &calls)?;
-    for outcome in outcomes.as_slice() {
+    for outcome in &outcomes {
         print_outcome(rt, *outcome)?;
     }
     print_decision(rt, book)
 }
 
 pub(crate) fn show_book(rt: &HostRuntime) -> anyhow::Result<()> {
-    match grid(rt.alloc()) {
-        Ok(source) => tell(rt, source),
-        Err(_) => Err(anyhow!("the built-in grid was not made")),
-    }
+    let source = grid(rt.alloc())
+        .ok()
+        .context("the built-in grid was not made")?;
+    tell(rt, source)
 }

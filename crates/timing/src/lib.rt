@@ -1,7 +1,7 @@
 //! Work for the benchmarks. `timing_c` exports it to C.
 #![tactic(auto)]
 
-ghost use Rattle.std.specs.Prelude.{◌*◌, ◌≤◌};
+ghost use Rattle.std.specs.Prelude.{◌*◌, ◌^◌, ◌<◌, ◌≤◌};
 ghost use Rattle.network.specs.Limits.{longest};
 
 use book::Book;
@@ -12,25 +12,24 @@ use network::pipe::Pipe;
 use network::source::Source;
 use network::trunk::Trunk;
 use std::alloc::Global;
+use std::array;
 use terms::faults::SourceFault;
 use terms::measures::{Km, Lots};
 use terms::points::{Kind, Side};
 
-// A map of 64 stations with 200 pipes.
-fn large_map(heap: Global) -> Result<PipeMap, SourceFault> {
-    let mut pipes = [Pipe {
-        from: 0,
-        to: 1,
-        length: Km(1),
-    }; MOST_PIPES];
-    for i in 0..MOST_PIPES {
-        let k = i as u32;
-        pipes[i] = Pipe {
-            from: k % BOTTOM_STATIONS,
-            to: (5 * k + 1) % BOTTOM_STATIONS,
-            length: Km(1 + k % 97),
-        };
+// Pipe `i` of a map of 64 stations with 200 pipes.
+fn large_pipe(i: u32) -> Pipe
+    requires { i < 2 ^ 16 }
+{
+    Pipe {
+        from: i % BOTTOM_STATIONS,
+        to: (5 * i + 1) % BOTTOM_STATIONS,
+        length: Km(1 + i % 97),
     }
+}
+
+fn large_map(heap: Global) -> Result<PipeMap, SourceFault> {
+    let pipes: [Pipe; MOST_PIPES] = array::from_fn(|i| large_pipe(i as u32));
     PipeMap::new(heap, BOTTOM_STATIONS, &pipes)
 }
 
@@ -49,9 +48,9 @@ fn ask<S: Source>(source: &S, turns: u32) -> u64
     let n = source.stations();
     let mut sum = 0;
     for i in 0..turns {
-        if let Some(k) = source.distance(i % n, i / n % n) {
-            sum += k.0 as u64;
-        }
+        sum += source
+            .distance(i % n, i / n % n)
+            .map_or(0, |km| u64::from(km.0));
     }
     sum
 }
@@ -60,29 +59,19 @@ fn ask<S: Source>(source: &S, turns: u32) -> u64
 pub fn timing_maps(heap: Global, turns: u32) -> u32
     ensures { result ≤ turns }
 {
-    let mut made = 0;
-    while made < turns && large_map(heap).is_ok() {
-        made += 1;
-    }
-    made
+    (0..turns).take_while(|_| large_map(heap).is_ok()).count() as u32
 }
 
 pub fn timing_distances(heap: Global, turns: u32) -> u64
     ensures { result ≤ longest * turns }
 {
-    match large_map(heap) {
-        Ok(map) => ask(&map, turns),
-        Err(_) => 0,
-    }
+    large_map(heap).map_or(0, |map| ask(&map, turns))
 }
 
 pub fn timing_three_links(heap: Global, turns: u32) -> u64
     ensures { result ≤ longest * turns }
 {
-    match three_links(heap) {
-        Ok(pile) => ask(&pile, turns),
-        Err(_) => 0,
-    }
+    three_links(heap).map_or(0, |pile| ask(&pile, turns))
 }
 
 // So many points of one side, each at a station of its own as far as there are stations, with 400 lots.
@@ -101,36 +90,23 @@ fn draws<S: Source + Drop>(source: S, turns: u32) -> u32
     let mut book = Book::new(source);
     fill(&mut book, Side::Entry, Kind::Transmission, 32);
     fill(&mut book, Side::Exit, Kind::Local, 96);
-    let mut drawn = 0;
-    while drawn < turns && book.draw().is_ok() {
-        drawn += 1;
-    }
-    drawn
+    (0..turns).take_while(|_| book.draw().is_ok()).count() as u32
 }
 
 // A trunk of 64 stations, a kilometre apart.
 fn long_trunk(heap: Global) -> Result<Trunk, SourceFault> {
-    let mut positions = [0; 64];
-    for i in 0..64 {
-        positions[i] = i as u32;
-    }
+    let positions: [u32; 64] = array::from_fn(|i| i as u32);
     Trunk::new(heap, &positions)
 }
 
 pub fn timing_trunk_draws(heap: Global, turns: u32) -> u32
     ensures { result ≤ turns }
 {
-    match long_trunk(heap) {
-        Ok(trunk) => draws(trunk, turns),
-        Err(_) => 0,
-    }
+    long_trunk(heap).map_or(0, |trunk| draws(trunk, turns))
 }
 
 pub fn timing_map_draws(heap: Global, turns: u32) -> u32
     ensures { result ≤ turns }
 {
-    match large_map(heap) {
-        Ok(map) => draws(map, turns),
-        Err(_) => 0,
-    }
+    large_map(heap).map_or(0, |map| draws(map, turns))
 }
