@@ -1,10 +1,10 @@
 // What a period is settled on, and how.
-ghost use Rattle.std.specs.Prelude.{◌≡◌, ◌<◌, ◌≤◌, IfOk, MatchResult, unsigned_abs};
+ghost use Rattle.std.specs.Prelude.{◌≡◌, ◌<◌, ◌≤◌, pos, IfOk, MatchResult, unsigned_abs};
 ghost use Rattle.terms.specs.Refusals.{Ruled};
 ghost use Rattle.terms.specs.Faults.{book_refusal};
 ghost use Rattle.terms.specs.declared.faults.BookFault.TheVariants.{BaseBelowZero};
 ghost use Rattle.revenue.specs.Checks.{settling_rules};
-ghost use Rattle.revenue.specs.Closings.{costs, revenues, base_of, correction_of, due_of, taken_of, rest_of, allowed_of, settled};
+ghost use Rattle.revenue.specs.Closings.{costs, revenues, base_of, correction_of, due_of, limit_of, taken_of, rest_of, allowed_of, settled};
 ghost use Rattle.revenue.specs.Limits.{most_base, most_due};
 
 use crate::carried::Carried;
@@ -43,12 +43,19 @@ impl Settlement {
         })
     }
 
+    // The most that may be taken in, up or down.
+    fn limit(self) -> i64
+        ensures { result ≡ pos (limit_of self.base.0) }
+    {
+        (3 * self.base.0 / 10) as i64
+    }
+
     // What of the amount that is due is taken in.
     fn taken(self) -> i64
         ensures value { result ≡ taken_of self.base.0 self.due.0 }
         ensures bound { unsigned_abs result ≤ self.base.0 }
     {
-        let limit = (3 * self.base.0 / 10) as i64;
+        let limit = self.limit();
         self.due.0.clamp(-limit, limit)
     }
 

@@ -1,19 +1,19 @@
-use Rattle.std.proofs.Common.{w64, SFits, mul-le-mul, rules, arith}
+use Rattle.std.proofs.Common.{ℤ, ◌≤◌, ◌*ℤ◌, nat_abs, w64, SFits, mul-le-mul, rules, arith}
 use Rattle.std.proofs.lemmas.Int.{to_z-of_z, fits_signed_mul, unsigned_abs-mul}
+use Rattle.revenue.specs.Limits.{most_money}
 use Rattle.revenue.proofs.checked.CheckedFigures.correction.Goals as goal
 
-pub returns : goal.returns
-returns c =
-    let d = c.difference.ensures in
-    let k = c.factor.ensures in
-    let rounded_fits : SFits w64 c.to_nearest_signed.result = search rules in
-    let difference_fits : SFits w64 c.difference.result = search rules in
-    let factor_fits : SFits w64 c.factor.result = search rules in
-    let product_fits = fits_signed_mul w64 c.difference.result c.factor.result 10000000 20000 d.bound k.bound (omega arith) in
-    let value = simp to_z-of_z at c.to_nearest_signed.ensures.value in
-    let bound = simp to_z-of_z at c.to_nearest_signed.ensures.bound in
-    simp to_z-of_z
-    (record {
-      value = cc (value, d.value, k.value, c.divisor.ensures);
-      bound = omega (arith, bound, unsigned_abs-mul c.difference.result c.factor.result, mul-le-mul d.bound k.bound);
-    })
+product_fits : (d k : ℤ) → nat_abs d ≤ most_money → nat_abs k ≤ 20000 → SFits w64 (d *ℤ k)
+product_fits d k h l = fits_signed_mul w64 d k most_money 20000 h l (omega arith)
+
+pub overflow_mul-difference : goal.overflow_mul-difference
+overflow_mul-difference c = search (rules, to_z-of_z, product_fits)
+
+pub returns-clause-value : goal.returns-clause-value
+returns-clause-value c =
+    grind (arith, to_z-of_z, product_fits, c.to_nearest_signed.ensures.value, c.difference.ensures.value, c.factor.ensures.value)
+
+pub returns-clause-bound : goal.returns-clause-bound
+returns-clause-bound c =
+    let product_le = mul-le-mul c.difference.ensures.bound c.factor.ensures.bound in
+    grind (arith, to_z-of_z, product_fits, unsigned_abs-mul, c.to_nearest_signed.ensures.bound)
