@@ -64,7 +64,7 @@ fn first_out_of_range(f: Figures) -> Option<ClosingFigure>
         (ClosingFigure::Realised, f.realised.0 > MOST_MONEY),
         (
             ClosingFigure::Index,
-            f.index.0 < LEAST_INDEX || f.index.0 > MOST_INDEX,
+            !(LEAST_INDEX..=MOST_INDEX).contains(&f.index.0),
         ),
     ])
 }
