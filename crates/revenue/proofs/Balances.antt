@@ -1,53 +1,30 @@
 -- Closings one after another balance.
-use Rattle.std.proofs.Common.{◌≡◌, ℕ, ◌≤◌, ◌⊎◌, List, [], ◌∷◌, ◌++◌, ℤ, ◌+ℤ◌, nat_abs, Ok, Err, Result, sym, refl, subst, inl, inr, arith}
-use Rattle.std.proofs.ByRecursion.{All-push}
+use Rattle.std.proofs.Common.{◌≡◌, List, [], ◌∷◌, ◌++◌, ℤ, ◌+ℤ◌, Ok, Err, Result, sym, refl, subst, arith}
 use Rattle.std.proofs.lemmas.Int.{ints, clamps}
+use Rattle.std.proofs.lemmas.List.Elements.{All-nil, All-push}
 use Rattle.terms.specs.Faults.{book_refusal}
 use Rattle.terms.specs.Refusals.{Ruled}
 use Rattle.terms.specs.declared.faults.BookFault.{BookFault}
 use Rattle.revenue.specs.declared.figures.Figures.{Figures}
 use Rattle.revenue.specs.declared.figures.Closing.{Closing}
-use Rattle.revenue.specs.Closings.{limit_of, held, taken_of, closing_of, base_of, due_of}
+use Rattle.revenue.specs.Closings.{closing_of}
 use Rattle.revenue.specs.Checks.{close_rules}
-use Rattle.revenue.specs.Law.{Accepted, none, next, corrections, amounts, Limited, Balanced, Continues}
+use Rattle.revenue.specs.Law.{Accepted, none, next, total, Limited, Balanced, Continues}
 
-held_le : (most : ℕ) (z : ℤ) → nat_abs (held most z) ≤ most
-held_le most z = omega (arith, ints, clamps)
-
--- what is held back is less than all only at the limit
-held_full : (most : ℕ) (z : ℤ) → (nat_abs (held most z) ≡ most) ⊎ (held most z ≡ z)
-held_full most z = grind (arith, ints)
-
-corrections_push : (cs : List Closing) (c : Closing) → corrections (cs ++ (c ∷ [])) ≡ corrections cs +ℤ c.correction.0
-corrections_push [] c = omega (arith, ints)
-corrections_push (d ∷ cs) c = omega (arith, ints, corrections_push cs c)
-
-amounts_push : (cs : List Closing) (c : Closing) → amounts (cs ++ (c ∷ [])) ≡ amounts cs +ℤ c.taken.0
-amounts_push [] c = omega (arith, ints)
-amounts_push (d ∷ cs) c = omega (arith, ints, amounts_push cs c)
+total-push : (amount : Closing → ℤ) (cs : List Closing) (c : Closing) → total amount (cs ++ (c ∷ [])) ≡ total amount cs +ℤ amount c
+total-push amount [] c = omega (arith, ints)
+total-push amount (d ∷ cs) c = omega (arith, ints, total-push amount cs c)
 
 limited : (carried : ℤ) (f : Figures) → Limited (closing_of carried f)
-limited carried f =
-    let base = base_of f in
-    let due = due_of carried f in
-    let le : nat_abs (taken_of base due) ≤ limit_of base = held_le (limit_of base) due in
-    record {
-      within = omega (arith, le);
-      full =
-          λ ne.
-          elim (held_full (limit_of base) due) [
-            | inl h ↦ omega (arith, h)
-            | inr h ↦ absurd (ne (omega (arith, ints, h)))
-          ];
-    }
+limited carried f = record { within = omega (arith, ints, clamps); full = λ ne. omega (arith, ints, clamps, ne) }
 
 pub balance : (closings : List Closing) (carried : ℤ) → Accepted closings carried → Balanced closings carried
-balance closings carried none = record { adds = refl; limits = tt }
+balance closings carried none = record { adds = refl; limits = All-nil Limited }
 balance closings carried (next {before} {carried = was} {f} a n) =
     let b = balance before was a in
     let c = closing_of was f in
     record {
-      adds = omega (arith, ints, b.adds, corrections_push before c, amounts_push before c);
+      adds = omega (arith, ints, b.adds, total-push (λ x. x.correction.0) before c, total-push (λ x. x.taken.0) before c);
       limits = All-push Limited before c b.limits (limited was f);
     }
 

@@ -1,3 +1,1 @@
-pub mod Amounts
 pub mod Balances
-pub mod Closes

@@ -1,6 +1,5 @@
 -- What holds of all closings of a book together.
-use Rattle.std.specs.Prelude.{◌≡◌, ◌+◌, ◌*◌, ◌<◌, ◌≤◌, List, [], ◌∷◌, ◌++◌, ℤ, pos, ◌+ℤ◌, Ok, Err, Result, ◌≢◌, unsigned_abs}
-use Rattle.std.specs.List.{AllByRecursion}
+use Rattle.std.specs.Prelude.{◌≡◌, ◌+◌, ◌*◌, ◌<◌, ◌≤◌, List, [], ◌∷◌, ◌++◌, ℤ, pos, ◌+ℤ◌, Ok, Err, Result, ◌≢◌, All, unsigned_abs}
 use Rattle.terms.specs.Refusals.{NoneBroken}
 use Rattle.terms.specs.declared.faults.BookFault.{BookFault}
 use Rattle.revenue.specs.declared.figures.Figures.{Figures}
@@ -14,15 +13,18 @@ pub data Accepted : List Closing → ℤ → Type 0 where
   next : {before : List Closing} {carried : ℤ} {f : Figures} → Accepted before carried → NoneBroken (close_rules carried f)
       → Accepted (before ++ (closing_of carried f ∷ [])) (closing_of carried f).rest.0
 
+-- the sum of an amount over closings
+abbrev pub total : (Closing → ℤ) → List Closing → ℤ
+total amount [] = pos 0
+total amount (c ∷ cs) = amount c +ℤ total amount cs
+
 -- the sum of the corrections
 abbrev pub corrections : List Closing → ℤ
-corrections [] = pos 0
-corrections (c ∷ cs) = c.correction.0 +ℤ corrections cs
+corrections = total (λ c. c.correction.0)
 
 -- the sum of what was taken in
 abbrev pub amounts : List Closing → ℤ
-amounts [] = pos 0
-amounts (c ∷ cs) = c.taken.0 +ℤ amounts cs
+amounts = total (λ c. c.taken.0)
 
 pub record Limited (c : Closing) : Type 0 where
   -- at most three tenths of the base are taken in, up or down
@@ -33,7 +35,7 @@ pub record Limited (c : Closing) : Type 0 where
 pub record Balanced (closings : List Closing) (carried : ℤ) : Type 0 where
   -- the corrections add up to what was taken in and what is still carried
   pub adds : corrections closings ≡ amounts closings +ℤ carried
-  pub limits : AllByRecursion Limited closings
+  pub limits : All Limited closings
 
 -- A closing on this carried amount goes on from any closings that were accepted before it, and they and it balance.
 abbrev pub Continues : ℤ → Result Closing BookFault → Type 0

@@ -38,3 +38,13 @@ most_carried = 100000000
 
 abbrev pub most_allowed : ℕ
 most_allowed = 10000000
+
+-- No base, no correction and nothing that is due is above these, where the figures are in their ranges.
+abbrev pub most_base : ℕ
+most_base = 10000000000000000
+
+abbrev pub most_correction : ℕ
+most_correction = 200000000000
+
+abbrev pub most_due : ℕ
+most_due = 1000000000000

@@ -4,10 +4,10 @@ ghost use Rattle.revenue.specs.Limits.{most_carried};
 use terms::measures::Dinars;
 
 // The largest amount that may be carried on, up or down.
-pub(crate) const MOST_CARRIED: i64 = 100_000_000;
+const MOST_CARRIED: u64 = 100_000_000;
 
 // An amount that is carried from one period to the next: at most 100,000,000 thousand dinars, up or down.
-#[derive(Clone, Copy)]
+#[derive(Clone, Copy, PartialEq, Eq, Debug)]
 pub struct Carried {
     amount: Dinars<i64>,
     ghost within: { unsigned_abs amount.0 ≤ most_carried },
@@ -17,7 +17,7 @@ impl Carried {
     pub fn new(amount: Dinars<i64>) -> Option<Carried>
         ensures { MatchOption result (most_carried < unsigned_abs amount.0) (λ c. c.amount ≡ amount) }
     {
-        if amount.0 < -MOST_CARRIED || amount.0 > MOST_CARRIED {
+        if amount.0.unsigned_abs() > MOST_CARRIED {
             return None;
         }
         Some(Carried { amount })

@@ -2,8 +2,10 @@
 #![tactic(auto)]
 
 pub mod carried;
+mod checked;
 pub mod figures;
 pub mod period;
+mod settlement;
 #[cfg(test)]
 mod tests;
 pub mod units;

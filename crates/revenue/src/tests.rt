@@ -44,24 +44,18 @@ fn bare(operating: u64) -> Figures {
 }
 
 fn carried(amount: i64) -> Result<Carried, Fail> {
-    match Carried::new(Dinars(amount)) {
-        Some(carried) => Ok(carried),
-        None => Err(Fail::new("beyond the limits")),
-    }
+    Ok(Carried::new(Dinars(amount)).ok_or("beyond the limits")?)
 }
 
 fn fault(figures: Figures, amount: i64) -> Result<Refusal, Fail> {
-    match close(figures, carried(amount)?) {
-        Ok(_) => Err(Fail::new("the closing was not refused")),
-        Err(fault) => Ok(fault.refusal()),
-    }
+    let fault = close(figures, carried(amount)?)
+        .err()
+        .ok_or("the closing was not refused")?;
+    Ok(fault.refusal())
 }
 
 fn accepted(figures: Figures, amount: i64) -> Result<Closing, Fail> {
-    match close(figures, carried(amount)?) {
-        Ok(closing) => Ok(closing),
-        Err(_) => Err(Fail::new("the closing was refused")),
-    }
+    Ok(close(figures, carried(amount)?)?)
 }
 
 fn told(number: u32, place: usize) -> Refusal {
