@@ -1,5 +1,6 @@
 // Figures that are in their ranges, and what they come to.
 ghost use Rattle.std.specs.Prelude.{◌≡◌, ◌*◌, ◌<◌, ◌≤◌, pos, ◌+ℤ◌, ◌-ℤ◌, IfSome, MatchOption, MatchResult, find, unsigned_abs};
+ghost use Rattle.std.specs.Int.NonZero.{non_zero_u64_get};
 ghost use Rattle.std.specs.Option.{option_map};
 ghost use Rattle.terms.specs.Refusals.{FirstBroken, NoneBroken};
 ghost use Rattle.terms.specs.Faults.{book_refusal};
@@ -10,7 +11,7 @@ ghost use Rattle.revenue.specs.Closings.{costs, revenues, base_of, correction_of
 ghost use Rattle.revenue.specs.Limits.{most_money, most_base, most_correction};
 
 use crate::figures::Figures;
-use terms::divisor::Divisor;
+use std::num::NonZeroU64;
 use terms::faults::{BookFault, ClosingFigure};
 use terms::measures::Dinars;
 use terms::rounding::{to_nearest, to_nearest_signed};
@@ -70,11 +71,11 @@ fn first_out_of_range(f: Figures) -> Option<ClosingFigure>
 }
 
 // A divisor that is known to be above 0.
-fn divisor(by: u64) -> Divisor
+fn divisor(by: u64) -> NonZeroU64
     requires { 0 < by }
-    ensures { result.value ≡ by }
+    ensures { non_zero_u64_get result ≡ by }
 {
-    Divisor::new(by).unwrap()
+    NonZeroU64::new(by).unwrap()
 }
 
 // a * b / by, to the nearest whole.

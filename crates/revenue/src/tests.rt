@@ -3,7 +3,7 @@ use crate::figures::{Closing, Figures};
 use crate::period::close;
 use crate::units::{HundredThousandths, HundredthsOfPercent, MegawattHours, ParasPerKwh};
 use std::test::Fail;
-use terms::faults::{BookFault, ClosingFigure};
+use terms::faults::{BookFault, ClosingFigure, Fault};
 use terms::measures::Dinars;
 use terms::refusals::{Part, Refusal};
 
