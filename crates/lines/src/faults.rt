@@ -4,7 +4,7 @@ ghost use Rattle.lines.specs.Faults.{sheet_refusal};
 ghost use Rattle.lines.specs.declared.faults.SheetFault.TheVariants.{Book, NoMemory};
 
 use std::alloc::AllocError;
-use terms::faults::BookFault;
+use terms::faults::{BookFault, Fault};
 use terms::refusals::{Part, Refusal};
 
 // Each fault of the sheet's own tells its line.
@@ -36,50 +36,22 @@ impl From<AllocError> for SheetFault {
     }
 }
 
-impl SheetFault {
-    // The number of the rule that is broken, or 0 for want of memory.
-    pub fn number(self) -> u32
-        ensures { result ≡ (sheet_refusal self).number }
-    {
-        match self {
-            SheetFault::Book(fault) => fault.number(),
-            SheetFault::UnknownWord(_) => 20,
-            SheetFault::BadNumber(_) => 21,
-            SheetFault::WordCount(_) => 22,
-            SheetFault::TooLong(_) => 23,
-            SheetFault::NoMemory => 0,
-        }
-    }
+impl Fault for SheetFault {
+    ghost told = { sheet_refusal };
 
-    pub fn part(self) -> Part
-        ensures { result ≡ (sheet_refusal self).part }
-    {
-        match self {
-            SheetFault::Book(fault) => fault.part(),
-            _ => Part::Sheet,
-        }
-    }
-
-    pub fn place(self) -> usize
-        ensures { result ≡ (sheet_refusal self).place }
-    {
-        match self {
-            SheetFault::Book(fault) => fault.place(),
-            SheetFault::UnknownWord(line) => line,
-            SheetFault::BadNumber(line) => line,
-            SheetFault::WordCount(line) => line,
-            SheetFault::TooLong(line) => line,
-            SheetFault::NoMemory => 0,
-        }
-    }
-
-    pub fn refusal(self) -> Refusal
-        ensures { result ≡ sheet_refusal self }
-    {
+    fn refusal(self) -> Refusal {
+        let (number, line) = match self {
+            SheetFault::Book(fault) => return fault.refusal(),
+            SheetFault::UnknownWord(line) => (20, line),
+            SheetFault::BadNumber(line) => (21, line),
+            SheetFault::WordCount(line) => (22, line),
+            SheetFault::TooLong(line) => (23, line),
+            SheetFault::NoMemory => (0, 0),
+        };
         Refusal {
-            number: self.number(),
-            part: self.part(),
-            place: self.place(),
+            number,
+            part: Part::Sheet,
+            place: line,
         }
     }
 }
