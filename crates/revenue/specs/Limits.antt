@@ -39,7 +39,7 @@ most_carried = 100000000
 abbrev pub most_allowed : ℕ
 most_allowed = 10000000
 
--- No base, no correction and nothing that is due is above these, where the figures are in their ranges.
+-- Where the figures are in their ranges, no base, no correction and nothing that is due is larger than these, up or down.
 abbrev pub most_base : ℕ
 most_base = 10000000000000000
 

@@ -37,10 +37,10 @@ const MOST_INDEX: i64 = 10_000;
 #[derive(Clone, Copy)]
 pub(crate) struct CheckedFigures {
     figures: Figures,
-    ghost good: { InRange figures },
+    ghost in_range: { InRange figures },
 }
 
-// The figure of the first row that is marked.
+// The figure of the first row that is marked. The check finds the chain where it is a function of its own.
 fn first_marked(rows: &[(ClosingFigure, bool)]) -> Option<ClosingFigure>
     ensures { result ≡ option_map (λ r. r.0) (find (λ r. r.1) rows.now) }
 {

@@ -27,7 +27,7 @@ pub(crate) struct Settlement {
 }
 
 impl Settlement {
-    // What the figures come to, where their base is no less than 0.
+    // What figures come to with the amount that is carried on to them. A base below 0 is refused.
     pub(crate) fn new(checked: CheckedFigures, carried: Carried) -> Result<Settlement, BookFault>
         ensures low { MatchResult result (λ _. revenues checked.figures ≤ costs checked.figures) (λ e. (costs checked.figures < revenues checked.figures) × (e ≡ BaseBelowZero)) }
         ensures base { IfOk result (λ s. s.base.0 ≡ base_of checked.figures) }
@@ -73,6 +73,7 @@ impl Settlement {
         (self.base.0 as i64 + self.taken()) as u64
     }
 
+    // Takes in what may be taken in. What would be carried on is held to its limit first, then the allowed revenue.
     pub(crate) fn settle(self) -> Result<Closing, BookFault>
         ensures { Ruled book_refusal (settling_rules self.base.0 self.due.0) (settled self.base.0 self.correction.0 self.due.0) result }
     {
