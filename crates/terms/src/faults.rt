@@ -2,8 +2,10 @@
 ghost use Rattle.std.specs.Prelude.{◌≡◌};
 ghost use Rattle.terms.specs.Faults.{figure_number, source_refusal, book_refusal};
 ghost use Rattle.terms.specs.declared.faults.BookFault.TheVariants.{Source};
+ghost use Rattle.terms.specs.declared.faults.SourceFault.TheVariants.{NoMemory};
 
 use crate::refusals::{Part, Refusal};
+use std::alloc::AllocError;
 
 // The twelve figures of a closing, in the order in which they are given.
 #[derive(Clone, Copy, PartialEq, Eq, Debug)]
@@ -55,6 +57,14 @@ pub enum BookFault {
     NoProduct,
     MultiplierOutOfRange,
     NoTariff,
+}
+
+impl From<AllocError> for SourceFault {
+    ghost from_gives = { λ _ e. e ≡ NoMemory };
+
+    fn from(_e: AllocError) -> SourceFault {
+        SourceFault::NoMemory
+    }
 }
 
 impl From<SourceFault> for BookFault {

@@ -1,4 +1,6 @@
 ghost use Rattle.std.specs.Prelude.{◌≡◌, ℕ};
+ghost use Rattle.terms.specs.Faults.{source_refusal};
+ghost use Rattle.terms.specs.Refusals.{Ruled};
 ghost use Rattle.network.specs.Rules.{Layered};
 ghost use Rattle.network.specs.Link.{link_net, link_rules, LinkLaw};
 ghost use Rattle.network.specs.Meanings.{of_link};
@@ -12,31 +14,35 @@ use crate::source::Source;
 use terms::faults::SourceFault;
 use terms::measures::Km;
 
+// The first broken rule, if any.
+fn check<S: Source>(below: &S, p: u32, q: u32, length: Km) -> Result<(), SourceFault>
+    ensures { Ruled source_refusal (link_rules (S.net below.now) p q length.0) tt result }
+{
+    let n = below.stations();
+    if p >= n || q >= n {
+        return Err(SourceFault::NoStation);
+    }
+    if length.0 > LONGEST {
+        return Err(SourceFault::BadFigure(0));
+    }
+    Ok(())
+}
+
 impl<S: Source> Link<S> {
     // A refusal hands `below` back.
     pub fn new(below: S, p: u32, q: u32, length: Km) -> Result<Link<S>, RefusedLayer<S>>
         ensures made { Layered (link_rules (S.net below) p q length.0) below (λ t. of_link S.net t ≡ link_net (S.net below) p q length.0) result }
         ensures law { LinkLaw (S.net below) }
     {
-        let n = below.stations();
-        if p >= n || q >= n {
-            return Err(RefusedLayer {
-                fault: SourceFault::NoStation,
+        match check(&below, p, q, length) {
+            Ok(()) => Ok(Link {
                 below,
-            });
+                p,
+                q,
+                length,
+            }),
+            Err(fault) => Err(RefusedLayer { fault, below }),
         }
-        if length.0 > LONGEST {
-            return Err(RefusedLayer {
-                fault: SourceFault::BadFigure(0),
-                below,
-            });
-        }
-        Ok(Link {
-            below,
-            p,
-            q,
-            length,
-        })
     }
 }
 
