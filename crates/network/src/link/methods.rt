@@ -2,7 +2,9 @@ ghost use Rattle.std.specs.Prelude.{◌≡◌, ℕ};
 ghost use Rattle.terms.specs.Faults.{source_refusal};
 ghost use Rattle.terms.specs.Refusals.{Ruled};
 ghost use Rattle.network.specs.Rules.{Layered};
-ghost use Rattle.network.specs.Link.{link_net, link_rules, LinkLaw};
+ghost use Rattle.network.specs.Net.{capped};
+ghost use Rattle.network.specs.Distances.{kms};
+ghost use Rattle.network.specs.Link.{via, link_net, link_rules, LinkLaw};
 ghost use Rattle.network.specs.Meanings.{of_link};
 ghost use Rattle.network.specs.Links.{link_lawful};
 
@@ -44,6 +46,14 @@ impl<S: Source> Link<S> {
             Err(fault) => Err(RefusedLayer { fault, below }),
         }
     }
+
+    // From a to the end u, over the link, and from its end v to b.
+    fn via(&self, u: u32, v: u32, a: u32, b: u32) -> Option<Km>
+        ensures { kms result ≡ capped (via (S.net self.now.below) u v self.now.length.0 a b) }
+    {
+        let over = sum(self.below.distance(a, u), Some(self.length));
+        sum(over, self.below.distance(v, b))
+    }
 }
 
 impl<S: Source> Source for Link<S> {
@@ -57,15 +67,8 @@ impl<S: Source> Source for Link<S> {
 
     fn distance(&self, a: u32, b: u32) -> Option<Km> {
         let direct = self.below.distance(a, b);
-        let length = Some(self.length);
-        let forth = sum(
-            sum(self.below.distance(a, self.p), length),
-            self.below.distance(self.q, b),
-        );
-        let back = sum(
-            sum(self.below.distance(a, self.q), length),
-            self.below.distance(self.p, b),
-        );
+        let forth = self.via(self.p, self.q, a, b);
+        let back = self.via(self.q, self.p, a, b);
         shorter(direct, shorter(forth, back))
     }
 }

@@ -74,16 +74,11 @@ impl<F: Source, G: Source> Source for Pairing<F, G> {
             return None;
         }
         let n = self.first.stations();
-        if a < n {
-            if b < n {
-                self.first.distance(a, b)
-            } else {
-                self.across(a, b - n)
-            }
-        } else if b < n {
-            self.across(b, a - n)
-        } else {
-            self.second.distance(a - n, b - n)
+        match (a.checked_sub(n), b.checked_sub(n)) {
+            (None, None) => self.first.distance(a, b),
+            (None, Some(b)) => self.across(a, b),
+            (Some(a), None) => self.across(b, a),
+            (Some(a), Some(b)) => self.second.distance(a, b),
         }
     }
 }
