@@ -11,9 +11,6 @@ use Rattle.network.proofs.figures.figures_of.Goals as goal
 pub figure-requires : goal.figure-requires
 figure-requires g c = λ k e. (g.met.S.Source.lawful c.args.source.now).short _ _ k (sym c.distance.ensures ∙ e)
 
-pub loop-b-init : goal.loop-b-init
-loop-b-init g c = (omega arith, λ k h. c.loop-a.invariant.1 k (omega arith))
-
 -- once the figure from a to b is pushed
 pushed : (net : Net) (n a b x : ℕ) (ws : List ℕ) → length ws ≡ a * n + b → b < n → x ≡ figure_of (net.distance a b) → Told net n (a * n + b) ws → Told net n (a * n + (b + 1)) (ws ++ x ∷ [])
 pushed net n a b x ws len hb is told k h =
@@ -34,9 +31,6 @@ loop-b-preserved g c =
     pushed net n a b c.figure.result (vec_items c.loop-b.figures) (omega arith) c.loop-b-test.true
     (c.figure.ensures ∙ ap figure_of c.distance.ensures) c.loop-b.invariant.1 in
     (omega (arith, c.in_ok-push.ensures.len), subst (Told net n (a * n + (b + 1))) (sym c.in_ok-push.ensures.items) told)
-
-pub loop-a-preserved : goal.loop-a-preserved
-loop-a-preserved g c = (omega arith, λ k h. c.loop-b.invariant.1 k (omega arith))
 
 pub returns : goal.returns
 returns g c =

@@ -1,24 +1,10 @@
-use Rattle.std.proofs.Common.{◌≡◌, ℕ, ◌+◌, ◌*◌, ◌<◌, List, cond, eqb, ltb, replicate, set, refl, ◌∙◌, subst, arith}
+use Rattle.std.proofs.Common.{◌≡◌, ℕ, ◌+◌, ◌*◌, cond, eqb, ltb, set, ◌∙◌, subst, arith}
 use Rattle.std.proofs.lemmas.Bool.Decides.{nat_tests}
-use Rattle.std.proofs.lemmas.List.{get_or-replicate}
 use Rattle.network.specs.Limits.{none_figure}
 use Rattle.network.specs.Grid.{at}
-use Rattle.network.specs.Cells.{cell_in, written}
+use Rattle.network.specs.Cells.{written}
 use Rattle.network.proofs.Passes.{squared}
 use Rattle.network.proofs.grid.Grid.new.Goals as goal
-
-start : (p q j : ℕ) → j ≡ none_figure → j ≡ cond (eqb p q) (cond (ltb p 0) 0 none_figure) none_figure
-start p q j e = grind (arith, nat_tests)
-
-all_none : (n : ℕ) (ws : List ℕ) (p q : ℕ) → ws ≡ replicate (n * n) none_figure → p < n → q < n → at n ws p q ≡ none_figure
-all_none n ws p q e hp hq = rw e (get_or-replicate (n * n) (p * n + q) none_figure 0 (cell_in n p q hp hq))
-
-pub loop-a-init : goal.loop-a-init
-loop-a-init c =
-    let n = c.args.count in
-    let ws = c.in_ok-figures.figures.items in
-    let all = c.in_ok-figures.ensures.items_if_clones_equal (λ y e. e) in
-    (refl, λ p q hp hq. start p q (at n ws p q) (all_none n ws p q all hp hq))
 
 turn : (p q a u x : ℕ) → u ≡ cond (eqb p a) (cond (eqb q a) 0 x) x → x ≡ cond (eqb p q) (cond (ltb p a) 0 none_figure) none_figure → u ≡ cond (eqb p q) (cond (ltb p (a + 1)) 0 none_figure) none_figure
 turn p q a u x e f = grind (arith, nat_tests)
