@@ -1,6 +1,7 @@
 -- One pass over all cells, in place: neither row k nor column k changes on the way.
 use Rattle.std.proofs.Common.{◌≡◌, ℕ, ◌+◌, ◌*◌, ◌<◌, ◌≤◌, cond, eqb, ltb, List, set, sym, ap, ◌∙◌, subst, arith}
 use Rattle.std.proofs.lemmas.Bool.Decides.{nat_tests}
+use Rattle.network.specs.declared.grid.Grid.{Grid}
 use Rattle.network.specs.Grid.{at, distance_of, Square}
 use Rattle.network.specs.Search.{shortcut, through}
 use Rattle.network.specs.Cells.{written}
@@ -23,6 +24,14 @@ Row n ws k a b vs = (c d : ℕ) → c < n → d < n → at n vs c d ≡ cond (eq
 -- the rows before a are done
 abbrev pub Rows : ℕ → List ℕ → ℕ → ℕ → List ℕ → Type 0
 Rows n ws k a vs = (c d : ℕ) → c < n → d < n → at n vs c d ≡ cond (ltb c a) (through n ws k c d) (at n ws c d)
+
+-- the row a alone is done
+abbrev pub OneRow : ℕ → List ℕ → ℕ → ℕ → List ℕ → Type 0
+OneRow n ws k a vs = (c d : ℕ) → c < n → d < n → at n vs c d ≡ cond (eqb c a) (through n ws k c d) (at n ws c d)
+
+-- a grid is a square of its count
+pub squared : (g : Grid) (n : ℕ) → g.count ≡ n → Square n g.figures.items
+squared g n e = subst (λ (x : ℕ). Square x g.figures.items) e (record { few = g.few; size = omega (arith, g.size) })
 
 merge : (c a d b u x i f o : ℕ) → u ≡ cond (eqb c a) (cond (eqb d b) x i) i → i ≡ cond (eqb c a) (cond (ltb d b) f o) o → (c ≡ a → d ≡ b → x ≡ f) → u ≡ cond (eqb c a) (cond (ltb d (b + 1)) f o) o
 merge c a d b u x i f o p q r = grind (arith, nat_tests)
@@ -61,10 +70,13 @@ module _ (n : ℕ) (ws : List ℕ) (k : ℕ) (hk : k < n) (itself : at n ws k k 
       (λ p q. e ∙ ap (λ (t : ℕ). through n ws k t b) (sym p) ∙ ap (λ (t : ℕ). through n ws k c t) (sym q))
 
   -- the same of figures that are told to be so
-  pub row_told : (vs us : List ℕ) (a b : ℕ) → us ≡ set vs (a * n + b) (through n vs k a b) → Square n vs → a < n → b < n → Row n ws k a b vs → Row n ws k a (b + 1) us
-  row_told vs us a b e sq ha hb inv = subst (Row n ws k a (b + 1)) (sym e) (row_more vs a b sq ha hb inv)
+  pub row_told : (g : Grid) (us : List ℕ) (a b : ℕ) → g.count ≡ n → us ≡ set g.figures.items (a * g.count + b) (through g.count g.figures.items k a b) → a < n → b < n → Row n ws k a b g.figures.items → Row n ws k a (b + 1) us
+  row_told g us a b same e ha hb inv =
+      let vs = g.figures.items in
+      let f = subst (λ (x : ℕ). us ≡ set vs (a * x + b) (through x vs k a b)) same e in
+      subst (Row n ws k a (b + 1)) (sym f) (row_more vs a b (squared g n same) ha hb inv)
 
-  pub rows_more : (vs us : List ℕ) (a : ℕ) → a < n → Rows n ws k a vs → ((c d : ℕ) → c < n → d < n → at n us c d ≡ cond (eqb c a) (through n vs k c d) (at n vs c d)) → Rows n ws k (a + 1) us
+  rows_more : (vs us : List ℕ) (a : ℕ) → a < n → Rows n ws k a vs → OneRow n vs k a us → Rows n ws k (a + 1) us
   rows_more vs us a ha inv row c d hc hd =
       let y : at n vs k d ≡ at n ws k d = either_way k a (at n vs k d) (through n ws k k d) (at n ws k d) (row_kept d) (inv k d hk hd) in
       let f : c ≡ a → through n vs k c d ≡ through n ws k c d = λ p.
@@ -73,6 +85,5 @@ module _ (n : ℕ) (ws : List ℕ) (k : ℕ) (hk : k < n) (itself : at n ws k k 
       simp (x, y, z) in
       merge_rows c a (at n us c d) (through n vs k c d) (at n vs c d) (through n ws k c d) (at n ws c d) (row c d hc hd) (inv c d hc hd) f
 
-  -- cell k, k stays 0
-  pub itself_kept : (vs : List ℕ) (a : ℕ) → Rows n ws k a vs → at n vs k k ≡ 0
-  itself_kept vs a inv = either_way k a (at n vs k k) (through n ws k k k) (at n ws k k) (row_kept k) (inv k k hk hk) ∙ itself
+  pub rows_told : (m : ℕ) (vs us : List ℕ) (a : ℕ) → m ≡ n → OneRow m vs k a us → a < n → Rows n ws k a vs → Rows n ws k (a + 1) us
+  rows_told m vs us a same row ha inv = rows_more vs us a ha inv (subst (λ (x : ℕ). OneRow x vs k a us) same row)

@@ -1,41 +1,33 @@
 -- A table that breaks no rule keeps the laws.
-use Rattle.std.proofs.Common.{◌≡◌, ℕ, ◌+◌, ◌*◌, ◌/◌, ◌%◌, ◌<◌, ◌≤◌, Bool, ◌⊎◌, List, length, get_or, is_some, Some, None, MatchBool, Option, sym, refl, subst, ⊎_elim, arith}
+use Rattle.std.proofs.Common.{◌≡◌, ℕ, ◌+◌, ◌*◌, ◌/◌, ◌%◌, ◌<◌, ◌≤◌, Bool, true, false, List, length, get_or, None, MatchBool, sym, refl, subst, ⊎_elim, arith}
 use Rattle.std.proofs.lemmas.Nat.{div-mul-add, mod-mul-add}
 use Rattle.network.specs.Limits.{longest}
 use Rattle.network.specs.Rules.{First}
 use Rattle.network.specs.Grid.{at, GridLaws}
 use Rattle.network.specs.Table.{NoFigure, Beaten, BreaksLaw}
 use Rattle.network.specs.Table.BreaksLaw.{not_itself, unlike, beaten}
+use Rattle.network.specs.Nets.{below_or_not}
 use Rattle.network.specs.Cells.{cell_in}
 
 -- two numbers that are not unlike are the same
 same : (x y : ℕ) → ((x ≡ y → ⊥) → ⊥) → x ≡ y
-same x y h = ⊎_elim (λ e. e) (λ n. absurd (h n)) (split x y)
-  where
-    split : (u v : ℕ) → (u ≡ v) ⊎ (u ≡ v → ⊥)
-    split u v = grind arith
+same x y h = grind arith
 
 -- a figure that is no more than two distances is one itself
 plain : (x : ℕ) → x ≤ longest + longest → (NoFigure x → ⊥) → x ≤ longest
-plain x l h =
-    ⊎_elim (λ k. k) (λ k. absurd (h (k, λ e. omega arith))) (split x)
-  where
-    split : (u : ℕ) → (u ≤ longest) ⊎ (longest < u)
-    split u = grind arith
+plain x l h = grind arith
 
 module _ (n : ℕ) (ws : List ℕ) (a b : ℕ) where
-  breaks_none : (a ≡ b → at n ws a b ≡ 0) → at n ws a b ≡ at n ws b a → First (Beaten n ws a b) n None → BreaksLaw n ws a b → ⊥
+  breaks_none : (a ≡ b → at n ws a b ≡ 0) → at n ws a b ≡ at n ws b a → ((c : ℕ) → c < n → Beaten n ws a b c → ⊥) → BreaksLaw n ws a b → ⊥
   breaks_none itself mirror detours (not_itself e h) = h (itself e)
   breaks_none itself mirror detours (unlike h) = h mirror
   breaks_none itself mirror detours (beaten c h) = detours c h.station h
 
   -- a figure that keeps the first two laws breaks one where a detour beats it
-  pub by_detours : (o : Option ℕ) (r : Bool) → r ≡ is_some o → First (Beaten n ws a b) n o → (a ≡ b → at n ws a b ≡ 0) → at n ws a b ≡ at n ws b a
+  pub by_detours : (r : Bool) → MatchBool r ((c : ℕ) × Beaten n ws a b c) ((c : ℕ) → c < n → Beaten n ws a b c → ⊥) → (a ≡ b → at n ws a b ≡ 0) → at n ws a b ≡ at n ws b a
       → MatchBool r (BreaksLaw n ws a b) (BreaksLaw n ws a b → ⊥)
-  by_detours None r e h itself mirror =
-      subst (λ (t : Bool). MatchBool t (BreaksLaw n ws a b) (BreaksLaw n ws a b → ⊥)) (sym e) (breaks_none itself mirror h)
-  by_detours (Some c) r e h itself mirror =
-      subst (λ (t : Bool). MatchBool t (BreaksLaw n ws a b) (BreaksLaw n ws a b → ⊥)) (sym e) (beaten c h.1.1)
+  by_detours true h itself mirror = beaten h.0 h.1
+  by_detours false h itself mirror = breaks_none itself mirror h
 
 module _ (n : ℕ) (ws : List ℕ) (size : length ws ≡ n * n)
     (plain-figures : First (λ i. NoFigure (get_or ws i 0)) (length ws) None)
@@ -52,12 +44,10 @@ module _ (n : ℕ) (ws : List ℕ) (size : length ws ≡ n * n)
 
   no_longer : (a b c : ℕ) → a < n → b < n → c < n → at n ws a b ≤ longest → at n ws b c ≤ longest → at n ws a c ≤ at n ws a b + at n ws b c
   no_longer a b c ha hb hc e f =
-      ⊎_elim (λ h. h)
+      ⊎_elim
       (λ h. absurd (kept a c ha hc (beaten b (record { station = hb; to = e; from = f; longer = h }))))
-      (split (at n ws a c) (at n ws a b + at n ws b c))
-    where
-      split : (u v : ℕ) → (u ≤ v) ⊎ (v < u)
-      split u v = grind arith
+      (λ h. h)
+      (below_or_not (at n ws a b + at n ws b c) (at n ws a c))
 
   pub table_laws : GridLaws n ws
   table_laws = record {

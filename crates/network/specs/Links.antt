@@ -113,7 +113,7 @@ pub link_law : (n : Net) → Lawful n → LinkLaw n
 link_law n law = record { lawful = link_lawful n law; no_longer = no_longer n law }
 
 -- a sum may be capped on the way
-cap_early : (o r : Option ℕ) → capped (plus (capped o) r) ≡ capped (plus o r)
+pub cap_early : (o r : Option ℕ) → capped (plus (capped o) r) ≡ capped (plus o r)
 cap_early None r = refl
 cap_early (Some i) None = refl
 cap_early (Some i) (Some j) = ap Some (omega arith)
@@ -128,11 +128,8 @@ short_capped None h = refl
 short_capped (Some i) h = ap Some (omega (arith, h i refl))
 
 -- so each part of the least may be capped on its own
-pub capped_parts : (d x y z w l : Option ℕ) → ((k : ℕ) → d ≡ Some k → k ≤ longest)
-    → least d (least (capped (plus (capped (plus x l)) y)) (capped (plus (capped (plus z l)) w))) ≡ capped (least d (least (plus (plus x l) y) (plus (plus z l) w)))
-capped_parts d x y z w l h =
-    sym (cap_each d (least (plus (plus x l) y) (plus (plus z l) w))
-    ∙ ap (λ (o : Option ℕ). least o (capped (least (plus (plus x l) y) (plus (plus z l) w)))) (short_capped d h)
-    ∙ ap (least d) (cap_each (plus (plus x l) y) (plus (plus z l) w)
-    ∙ ap (λ (o : Option ℕ). least o (capped (plus (plus z l) w))) (sym (cap_early (plus x l) y))
-    ∙ ap (least (capped (plus (capped (plus x l)) y))) (sym (cap_early (plus z l) w))))
+pub capped_parts : (d v w : Option ℕ) → ((k : ℕ) → d ≡ Some k → k ≤ longest) → least d (least (capped v) (capped w)) ≡ capped (least d (least v w))
+capped_parts d v w h =
+    sym (cap_each d (least v w)
+    ∙ ap (λ (o : Option ℕ). least o (capped (least v w))) (short_capped d h)
+    ∙ ap (least d) (cap_each v w))

@@ -15,7 +15,7 @@ abbrev pub of_trunk : Trunk → Net
 of_trunk t = trunk_net (vec_items t.positions)
 
 abbrev pub of_table : DistanceTable → Net
-of_table t = grid_net t.count (vec_items t.figures)
+of_table t = grid_net t.grid.count (vec_items t.grid.figures)
 
 -- that of the distances worked out when it was made
 abbrev pub of_map : PipeMap → Net

@@ -10,19 +10,12 @@ use terms::measures::Km;
 pub(crate) fn sum(u: Option<Km>, v: Option<Km>) -> Option<Km>
     ensures { kms result ≡ capped (plus (kms u) (kms v)) }
 {
-    match (u, v) {
-        (Some(u), Some(v)) => Some(Km(u.0.saturating_add(v.0).min(LONGEST))),
-        _ => None,
-    }
+    Some(Km(u?.0.saturating_add(v?.0).min(LONGEST)))
 }
 
 // The shorter of those that are there.
 pub(crate) fn shorter(u: Option<Km>, v: Option<Km>) -> Option<Km>
     ensures { kms result ≡ least (kms u) (kms v) }
 {
-    match (u, v) {
-        (Some(u), Some(v)) => Some(Km(u.0.min(v.0))),
-        (Some(u), None) => Some(u),
-        (None, v) => v,
-    }
+    u.zip(v).map(|(u, v)| Km(u.0.min(v.0))).or(u).or(v)
 }

@@ -13,10 +13,7 @@ fn figure(distance: Option<Km>) -> u16
     requires { (k : ℕ) → kms distance ≡ Some k → k ≤ longest }
     ensures { result ≡ figure_of (kms distance) }
 {
-    match distance {
-        Some(k) => k.0 as u16,
-        None => NONE_FIGURE,
-    }
+    distance.map_or(NONE_FIGURE, |k| k.0 as u16)
 }
 
 // The distances between all stations, row by row. They mean what the source means.
@@ -25,8 +22,10 @@ pub fn figures_of<S: Source>(heap: Global, source: &S) -> Result<Vec<u16>, Alloc
 {
     let n = source.stations();
     let mut figures = Vec::new(heap);
-    for i in 0..n * n {
-        figures.push(figure(source.distance(i / n, i % n)))?;
+    for a in 0..n {
+        for b in 0..n {
+            figures.push(figure(source.distance(a, b)))?;
+        }
     }
     Ok(figures)
 }

@@ -10,6 +10,6 @@ mod methods;
 pub struct PipeMap {
     pipes: Vec<Pipe>,
     table: DistanceTable,
-    ghost good: { ∥ GoodPipes table.count pipes.items ∥₁ },
-    ghost least: { ∥ LeastGrid table.count pipes.items table.figures.items ∥₁ },
+    ghost good: { ∥ GoodPipes table.grid.count pipes.items ∥₁ },
+    ghost least: { ∥ LeastGrid table.grid.count pipes.items table.grid.figures.items ∥₁ },
 }

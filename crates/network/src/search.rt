@@ -1,13 +1,14 @@
 // The search for shortest routes: at first only the pipes, and then one station after another may be passed through.
-ghost use Rattle.std.specs.Prelude.{◌≡◌, ℕ, ◌+◌, ◌*◌, ◌<◌, min, if◌then◌else◌, nat_eq, slice_set};
-ghost use Rattle.network.specs.Limits.{none_figure};
-ghost use Rattle.network.specs.Grid.{at, Square};
+ghost use Rattle.std.specs.Prelude.{◌≡◌, ℕ, ◌+◌, ◌*◌, ◌<◌, ◌≤◌, IfOk, if◌then◌else◌, nat_eq, slice_set};
+ghost use Rattle.network.specs.Limits.{bottom_stations};
+ghost use Rattle.network.specs.Grid.{at};
 ghost use Rattle.network.specs.Search.{shortcut, through, laid};
 ghost use Rattle.network.specs.Pipes.{GoodPipe, GoodPipes, LeastGrid};
 
-use crate::grid::{cell, figure_at};
-use crate::limits::{LONGEST_FIGURE, NONE_FIGURE};
+use crate::grid::Grid;
+use crate::limits::LONGEST_FIGURE;
 use crate::pipe::Pipe;
+use std::alloc::{AllocError, Global};
 
 // z, or x and then y where that is shorter.
 fn shortened(x: u16, y: u16, z: u16) -> u16
@@ -20,72 +21,63 @@ fn shortened(x: u16, y: u16, z: u16) -> u16
     }
 }
 
-// From a to b, k may now be passed through.
-fn relax_cell(figures: &mut [u16], n: usize, k: usize, a: usize, b: usize)
-    requires { (Square n figures.old) × ((k < n) × ((a < n) × (b < n))) }
-    ensures { figures.new ≡ slice_set figures.old (a * n + b) (through n figures.old k a b) }
-{
-    let to = figure_at(figures, n, a, k);
-    let from = figure_at(figures, n, k, b);
-    let direct = figure_at(figures, n, a, b);
-    figures[cell(n, a, b)] = shortened(to, from, direct);
-}
+impl Grid {
+    // From a to b, k may now be passed through.
+    fn relax_cell(&mut self, k: usize, a: usize, b: usize)
+        requires { (k < self.old.count) × ((a < self.old.count) × (b < self.old.count)) }
+        ensures count { self.new.count ≡ self.old.count }
+        ensures figures { let n = self.old.count in self.new.figures.items ≡ slice_set self.old.figures.items (a * n + b) (through n self.old.figures.items k a b) }
+    {
+        self.set(a, b, shortened(self.at(a, k), self.at(k, b), self.at(a, b)));
+    }
 
-fn relax_row(figures: &mut [u16], n: usize, k: usize, a: usize)
-    requires { (Square n figures.old) × ((k < n) × ((a < n) × (at n figures.old k k ≡ 0))) }
-    ensures { (c d : ℕ) → c < n → d < n → at n figures.new c d ≡ (if nat_eq c a then through n figures.old k c d else at n figures.old c d) }
-{
-    for b in 0..n {
-        relax_cell(figures, n, k, a, b);
+    fn relax_row(&mut self, k: usize, a: usize)
+        requires { let n = self.old.count in (k < n) × ((a < n) × (at n self.old.figures.items k k ≡ 0)) }
+        ensures count { self.new.count ≡ self.old.count }
+        ensures figures { let n = self.old.count in (c d : ℕ) → c < n → d < n → at n self.new.figures.items c d ≡ (if nat_eq c a then through n self.old.figures.items k c d else at n self.old.figures.items c d) }
+    {
+        for b in 0..self.count {
+            self.relax_cell(k, a, b);
+        }
+    }
+
+    // From any station to any, k may now be passed through.
+    fn relax(&mut self, k: usize)
+        requires { let n = self.old.count in (k < n) × (at n self.old.figures.items k k ≡ 0) }
+        ensures count { self.new.count ≡ self.old.count }
+        ensures figures { let n = self.old.count in (c d : ℕ) → c < n → d < n → at n self.new.figures.items c d ≡ through n self.old.figures.items k c d }
+    {
+        for a in 0..self.count {
+            self.relax_row(k, a);
+        }
+    }
+
+    fn lay(&mut self, p: Pipe)
+        requires { GoodPipe self.old.count p }
+        ensures count { self.new.count ≡ self.old.count }
+        ensures figures { self.new.figures.items ≡ laid self.old.count p self.old.figures.items }
+    {
+        let from = p.from as usize;
+        let to = p.to as usize;
+        let length = p.length.0 as u16;
+        let there = length.min(self.at(from, to));
+        let back = length.min(self.at(to, from));
+        self.set(from, to, there);
+        self.set(to, from, back);
     }
 }
 
-// From any station to any, k may now be passed through.
-fn relax(figures: &mut [u16], n: usize, k: usize)
-    requires { (Square n figures.old) × ((k < n) × (at n figures.old k k ≡ 0)) }
-    ensures { (c d : ℕ) → c < n → d < n → at n figures.new c d ≡ through n figures.old k c d }
+// The least lengths over all routes along the pipes.
+pub(crate) fn find_shortest(heap: Global, n: usize, pipes: &[Pipe]) -> Result<Grid, AllocError>
+    requires { (n ≤ bottom_stations) × (GoodPipes n pipes.now) }
+    ensures { IfOk result (λ g. (g.count ≡ n) × LeastGrid n pipes.now g.figures.items) }
 {
-    for a in 0..n {
-        relax_row(figures, n, k, a);
-    }
-}
-
-// No distance but from each station to itself.
-fn clear(figures: &mut [u16], n: usize)
-    requires { Square n figures.old }
-    ensures { (c d : ℕ) → c < n → d < n → at n figures.new c d ≡ (if nat_eq c d then 0 else none_figure) }
-{
-    for w in figures.iter_mut() {
-        *w = NONE_FIGURE;
-    }
-    for a in 0..n {
-        figures[cell(n, a, a)] = 0;
-    }
-}
-
-fn lay(figures: &mut [u16], n: usize, p: Pipe)
-    requires { (Square n figures.old) × (GoodPipe n p) }
-    ensures { figures.new ≡ laid n p figures.old }
-{
-    let from = p.from as usize;
-    let to = p.to as usize;
-    let length = p.length.0 as u16;
-    let there = length.min(figure_at(figures, n, from, to));
-    let back = length.min(figure_at(figures, n, to, from));
-    figures[cell(n, from, to)] = there;
-    figures[cell(n, to, from)] = back;
-}
-
-// The figures become the least lengths over all routes along the pipes.
-pub(crate) fn find_shortest(figures: &mut [u16], n: usize, pipes: &[Pipe])
-    requires { (Square n figures.old) × (GoodPipes n pipes.now) }
-    ensures { LeastGrid n pipes.now figures.new }
-{
-    clear(figures, n);
+    let mut grid = Grid::new(heap, n)?;
     for p in pipes {
-        lay(figures, n, *p);
+        grid.lay(*p);
     }
     for k in 0..n {
-        relax(figures, n, k);
+        grid.relax(k);
     }
+    Ok(grid)
 }

@@ -1,17 +1,15 @@
-ghost use Rattle.std.specs.Prelude.{◌≡◌, ℕ, ◌*◌, ◌≤◌, vec_len};
-ghost use Rattle.network.specs.Limits.{bottom_stations};
+ghost use Rattle.std.specs.Prelude.{◌≤◌};
 ghost use Rattle.network.specs.Grid.{GridLaws};
+
+use crate::grid::Grid;
 
 mod checks;
 mod methods;
 
-// The distances between `count` stations, as figures row by row.
+// The distances between the stations of a grid.
 #[derive(Drop)]
 pub struct DistanceTable {
-    pub(crate) count: usize,
-    pub(crate) figures: Vec<u16>,
-    ghost some: { 1 ≤ count },
-    ghost few: { count ≤ bottom_stations },
-    ghost size: { vec_len figures ≡ count * count },
-    ghost laws: { ∥ GridLaws count figures.items ∥₁ },
+    pub(crate) grid: Grid,
+    ghost some: { 1 ≤ grid.count },
+    ghost laws: { ∥ GridLaws grid.count grid.figures.items ∥₁ },
 }

@@ -1,4 +1,4 @@
-ghost use Rattle.std.specs.Prelude.{◌≡◌, ℕ, ◌≤◌, length, IfSome, MatchBool};
+ghost use Rattle.std.specs.Prelude.{◌≡◌, ℕ, ◌≤◌, length, IfOk, MatchBool};
 ghost use Rattle.network.specs.Limits.{bottom_stations};
 ghost use Rattle.network.specs.Rules.{First, Made};
 ghost use Rattle.network.specs.Routes.{Shortest, OneShortest};
@@ -7,12 +7,12 @@ ghost use Rattle.network.specs.Meanings.{of_map};
 ghost use Rattle.network.specs.Grids.{unlock, grid_lawful};
 
 use super::PipeMap;
-use crate::limits::{BOTTOM_STATIONS, LONGEST, MOST_PIPES, NONE_FIGURE};
+use crate::limits::{BOTTOM_STATIONS, LONGEST, MOST_PIPES};
 use crate::pipe::Pipe;
 use crate::search::find_shortest;
 use crate::source::Source;
 use crate::table::DistanceTable;
-use std::alloc::Global;
+use std::alloc::{AllocError, Global};
 use terms::faults::SourceFault;
 use terms::measures::Km;
 
@@ -26,24 +26,16 @@ fn is_good(n: u32, p: Pipe) -> bool
 fn first_bad(n: u32, pipes: &[Pipe]) -> Option<usize>
     ensures { First (λ i. GoodPipe n (pipe_at pipes.now i) → ⊥) (length pipes.now) result }
 {
-    for (i, p) in pipes.iter().enumerate() {
-        if !is_good(n, *p) {
-            return Some(i);
-        }
-    }
-    None
+    pipes.iter().position(|p| !is_good(n, *p))
 }
 
-// The distances along good pipes, or none for want of memory.
-fn distances_along(heap: Global, count: usize, pipes: &[Pipe]) -> Option<DistanceTable>
-    requires { (1 ≤ count) × ((count ≤ bottom_stations) × (GoodPipes count pipes.now)) }
-    ensures { IfSome result (λ t. (t.count ≡ count) × LeastGrid count pipes.now t.figures.items) }
+// The distances along good pipes.
+fn distances_along(heap: Global, n: usize, pipes: &[Pipe]) -> Result<DistanceTable, AllocError>
+    requires { (1 ≤ n) × ((n ≤ bottom_stations) × (GoodPipes n pipes.now)) }
+    ensures { IfOk result (λ t. (t.grid.count ≡ n) × LeastGrid n pipes.now t.grid.figures.items) }
 {
-    let Ok(mut figures) = vec![in heap; NONE_FIGURE; count * count] else {
-        return None;
-    };
-    find_shortest(&mut figures, count, pipes);
-    Some(DistanceTable { count, figures })
+    let grid = find_shortest(heap, n, pipes)?;
+    Ok(DistanceTable { grid })
 }
 
 impl PipeMap {
@@ -58,12 +50,8 @@ impl PipeMap {
         if let Some(i) = first_bad(n, pipes) {
             return Err(SourceFault::BadFigure(i));
         }
-        let Some(table) = distances_along(heap, n as usize, pipes) else {
-            return Err(SourceFault::NoMemory);
-        };
-        let Ok(pipes) = Vec::from_slice(heap, pipes) else {
-            return Err(SourceFault::NoMemory);
-        };
+        let table = distances_along(heap, n as usize, pipes)?;
+        let pipes = Vec::from_slice(heap, pipes)?;
         Ok(PipeMap { pipes, table })
     }
 }
@@ -71,7 +59,7 @@ impl PipeMap {
 impl Source for PipeMap {
     ghost net = { of_map };
 
-    ghost lawful = { λ m. let s = m.table in grid_lawful s.count s.figures.items s.some s.few (unlock s.count s.figures.items s.laws) };
+    ghost lawful = { λ m. let g = m.table.grid in grid_lawful g.count g.figures.items m.table.some g.few (unlock g.count g.figures.items m.table.laws) };
 
     fn stations(&self) -> u32 {
         self.table.stations()

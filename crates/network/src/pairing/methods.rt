@@ -1,4 +1,6 @@
 ghost use Rattle.std.specs.Prelude.{◌≡◌, ℕ};
+ghost use Rattle.terms.specs.Faults.{source_refusal};
+ghost use Rattle.terms.specs.Refusals.{Ruled};
 ghost use Rattle.network.specs.Rules.{Layered};
 ghost use Rattle.network.specs.Distances.{kms};
 ghost use Rattle.network.specs.Pairing.{across, pairing_net, pairing_rules};
@@ -13,31 +15,38 @@ use crate::source::Source;
 use terms::faults::SourceFault;
 use terms::measures::Km;
 
+// The first broken rule, if any.
+fn check<F: Source, G: Source>(first: &F, second: &G, x: u32, y: u32) -> Result<(), SourceFault>
+    ensures { Ruled source_refusal (pairing_rules (F.net first.now) (G.net second.now) x y) tt result }
+{
+    let n = first.stations();
+    let m = second.stations();
+    if n + m > MOST_STATIONS {
+        return Err(SourceFault::WrongCount);
+    }
+    if x >= n || y >= m {
+        return Err(SourceFault::NoStation);
+    }
+    Ok(())
+}
+
 impl<F: Source, G: Source> Pairing<F, G> {
     // The first keeps its numbers, and the second's follow. A refusal hands both back.
     pub fn new(first: F, second: G, x: u32, y: u32) -> Result<Pairing<F, G>, RefusedLayer<(F, G)>>
         ensures { Layered (pairing_rules (F.net first) (G.net second) x y) (first, second) (λ t. of_pairing F.net G.net t ≡ pairing_net (F.net first) (G.net second) x y) result }
     {
-        let n = first.stations();
-        let m = second.stations();
-        if n + m > MOST_STATIONS {
-            return Err(RefusedLayer {
-                fault: SourceFault::WrongCount,
+        match check(&first, &second, x, y) {
+            Ok(()) => Ok(Pairing {
+                first,
+                second,
+                x,
+                y,
+            }),
+            Err(fault) => Err(RefusedLayer {
+                fault,
                 below: (first, second),
-            });
+            }),
         }
-        if x >= n || y >= m {
-            return Err(RefusedLayer {
-                fault: SourceFault::NoStation,
-                below: (first, second),
-            });
-        }
-        Ok(Pairing {
-            first,
-            second,
-            x,
-            y,
-        })
     }
 
     // From a of the first to b of the second.
@@ -65,16 +74,11 @@ impl<F: Source, G: Source> Source for Pairing<F, G> {
             return None;
         }
         let n = self.first.stations();
-        if a < n {
-            if b < n {
-                self.first.distance(a, b)
-            } else {
-                self.across(a, b - n)
-            }
-        } else if b < n {
-            self.across(b, a - n)
-        } else {
-            self.second.distance(a - n, b - n)
+        match (a.checked_sub(n), b.checked_sub(n)) {
+            (None, None) => self.first.distance(a, b),
+            (None, Some(b)) => self.across(a, b),
+            (Some(a), None) => self.across(b, a),
+            (Some(a), Some(b)) => self.second.distance(a, b),
         }
     }
 }

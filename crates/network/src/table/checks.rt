@@ -1,70 +1,62 @@
 // What each figure of a table is held against.
 ghost use Rattle.std.specs.Prelude.{◌≡◌, ℕ, ◌/◌, ◌%◌, ◌<◌, ◌≤◌, length, MatchBool, slice_index};
 ghost use Rattle.network.specs.Rules.{First};
-ghost use Rattle.network.specs.Grid.{Square};
 ghost use Rattle.network.specs.Table.{NoFigure, Beaten, BreaksLaw};
 
-use crate::grid::figure_at;
+use crate::grid::GridRef;
 use crate::limits::{LONGEST_FIGURE, NONE_FIGURE};
 
-// The first figure that is neither a distance nor none.
-pub(super) fn first_no_figure(figures: &[u16]) -> Option<usize>
-    ensures { First (λ i. NoFigure (slice_index figures.now i)) (length figures.now) result }
-{
-    for (i, figure) in figures.iter().enumerate() {
-        if *figure > LONGEST_FIGURE && *figure != NONE_FIGURE {
-            return Some(i);
+impl GridRef<'_> {
+    // The first figure that is neither a distance nor none.
+    pub(super) fn first_no_figure(&self) -> Option<usize>
+        ensures { First (λ i. NoFigure (slice_index self.now.figures.now i)) (length self.now.figures.now) result }
+    {
+        self.figures.iter().position(|figure| *figure > LONGEST_FIGURE && *figure != NONE_FIGURE)
+    }
+
+    fn is_beaten(&self, a: usize, b: usize, c: usize) -> bool
+        requires { let n = self.now.count in (a < n) × ((b < n) × (c < n)) }
+        ensures { let broken = Beaten self.now.count self.now.figures.now a b c in MatchBool result broken (broken → ⊥) }
+    {
+        let to = self.at(a, c);
+        let from = self.at(c, b);
+        to <= LONGEST_FIGURE && from <= LONGEST_FIGURE && to + from < self.at(a, b)
+    }
+
+    fn has_detour(&self, a: usize, b: usize) -> bool
+        requires { let n = self.now.count in (a < n) × (b < n) }
+        ensures { let n = self.now.count in let beaten = Beaten n self.now.figures.now a b in MatchBool result ((c : ℕ) × beaten c) ((c : ℕ) → c < n → beaten c → ⊥) }
+    {
+        (0..self.count).any(|c| self.is_beaten(a, b, c))
+    }
+
+    fn breaks_law(&self, a: usize, b: usize) -> bool
+        requires { let n = self.now.count in (a < n) × (b < n) }
+        ensures { let broken = BreaksLaw self.now.count self.now.figures.now a b in MatchBool result broken (broken → ⊥) }
+    {
+        let there = self.at(a, b);
+        let back = self.at(b, a);
+        (a == b && there != 0) || there != back || self.has_detour(a, b)
+    }
+
+    // The figure at that place breaks a law.
+    fn is_lawless(&self, place: usize) -> bool
+        requires { place < length self.now.figures.now }
+        ensures { let n = self.now.count in let broken = BreaksLaw n self.now.figures.now (place / n) (place % n) in MatchBool result broken (broken → ⊥) }
+    {
+        self.breaks_law(place / self.count, place % self.count)
+    }
+
+    // The first figure that breaks a law.
+    pub(super) fn first_lawless(&self) -> Option<usize>
+        ensures { let n = self.now.count in First (λ i. BreaksLaw n self.now.figures.now (i / n) (i % n)) (length self.now.figures.now) result }
+    {
+        // not by `position`: what its closure says of the law was not proved
+        for place in 0..self.figures.len() {
+            if self.is_lawless(place) {
+                return Some(place);
+            }
         }
+        None
     }
-    None
-}
-
-fn is_beaten(figures: &[u16], n: usize, a: usize, b: usize, c: usize) -> bool
-    requires { (Square n figures.now) × ((a < n) × ((b < n) × (c < n))) }
-    ensures { MatchBool result (Beaten n figures.now a b c) (Beaten n figures.now a b c → ⊥) }
-{
-    let to = figure_at(figures, n, a, c);
-    let from = figure_at(figures, n, c, b);
-    to <= LONGEST_FIGURE && from <= LONGEST_FIGURE && to + from < figure_at(figures, n, a, b)
-}
-
-// A station over which there is a shorter detour, or one where the figure is none.
-fn shorter_over(figures: &[u16], n: usize, a: usize, b: usize) -> Option<usize>
-    requires { (Square n figures.now) × ((a < n) × (b < n)) }
-    ensures { First (Beaten n figures.now a b) n result }
-{
-    for c in 0..n {
-        if is_beaten(figures, n, a, b, c) {
-            return Some(c);
-        }
-    }
-    None
-}
-
-fn breaks_law(figures: &[u16], n: usize, a: usize, b: usize) -> bool
-    requires { (Square n figures.now) × ((a < n) × (b < n)) }
-    ensures { MatchBool result (BreaksLaw n figures.now a b) (BreaksLaw n figures.now a b → ⊥) }
-{
-    let there = figure_at(figures, n, a, b);
-    let back = figure_at(figures, n, b, a);
-    if a == b && there != 0 {
-        return true;
-    }
-    if there != back {
-        return true;
-    }
-    shorter_over(figures, n, a, b).is_some()
-}
-
-// The first figure that breaks a law.
-pub(super) fn first_lawless(figures: &[u16], n: usize) -> Option<usize>
-    requires { (Square n figures.now) × (1 ≤ n) }
-    ensures { First (λ i. BreaksLaw n figures.now (i / n) (i % n)) (length figures.now) result }
-{
-    for i in 0..figures.len() {
-        if breaks_law(figures, n, i / n, i % n) {
-            return Some(i);
-        }
-    }
-    None
 }

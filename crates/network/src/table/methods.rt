@@ -6,8 +6,7 @@ ghost use Rattle.network.specs.Meanings.{of_table};
 ghost use Rattle.network.specs.Grids.{unlock, grid_lawful};
 
 use super::DistanceTable;
-use super::checks::{first_lawless, first_no_figure};
-use crate::grid::figure_at;
+use crate::grid::{Grid, GridRef};
 use crate::limits::{BOTTOM_STATIONS, LONGEST_FIGURE};
 use crate::source::Source;
 use std::alloc::Global;
@@ -23,39 +22,36 @@ impl DistanceTable {
         if n == 0 || n > BOTTOM_STATIONS || figures.len() != count * count {
             return Err(SourceFault::WrongCount);
         }
-        if let Some(i) = first_no_figure(figures) {
+        let lent = GridRef { count, figures };
+        if let Some(i) = lent.first_no_figure() {
             return Err(SourceFault::BadFigure(i));
         }
-        if let Some(i) = first_lawless(figures, count) {
+        if let Some(i) = lent.first_lawless() {
             return Err(SourceFault::BadFigure(i));
         }
-        let Ok(figures) = Vec::from_slice(heap, figures) else {
-            return Err(SourceFault::NoMemory);
-        };
-        Ok(DistanceTable { count, figures })
+        let figures = Vec::from_slice(heap, figures)?;
+        Ok(DistanceTable {
+            grid: Grid { count, figures },
+        })
     }
 }
 
 impl Source for DistanceTable {
     ghost net = { of_table };
 
-    ghost lawful = { λ s. grid_lawful s.count s.figures.items s.some s.few (unlock s.count s.figures.items s.laws) };
+    ghost lawful = { λ s. let g = s.grid in grid_lawful g.count g.figures.items s.some g.few (unlock g.count g.figures.items s.laws) };
 
     fn stations(&self) -> u32 {
-        self.count as u32
+        self.grid.count as u32
     }
 
     fn distance(&self, a: u32, b: u32) -> Option<Km> {
         let a = a as usize;
         let b = b as usize;
-        if a >= self.count || b >= self.count {
+        if a >= self.grid.count || b >= self.grid.count {
             return None;
         }
-        let k = figure_at(&self.figures, self.count, a, b);
-        if k <= LONGEST_FIGURE {
-            Some(Km(u32::from(k)))
-        } else {
-            None
-        }
+        let figure = self.grid.at(a, b);
+        (figure <= LONGEST_FIGURE).then(|| Km(u32::from(figure)))
     }
 }

@@ -16,12 +16,7 @@ use terms::measures::Km;
 fn first_high(positions: &[u32]) -> Option<usize>
     ensures { First (λ i. longest < slice_index positions.now i) (length positions.now) result }
 {
-    for (i, p) in positions.iter().enumerate() {
-        if *p > LONGEST {
-            return Some(i);
-        }
-    }
-    None
+    positions.iter().position(|p| *p > LONGEST)
 }
 
 impl Trunk {
@@ -29,15 +24,13 @@ impl Trunk {
     pub fn new(heap: Global, positions: &[u32]) -> Result<Trunk, SourceFault>
         ensures { Made (trunk_rules positions.now) (λ t. of_trunk t ≡ trunk_net positions.now) result }
     {
-        if positions.len() == 0 || positions.len() > BOTTOM_STATIONS as usize {
+        if positions.is_empty() || positions.len() > BOTTOM_STATIONS as usize {
             return Err(SourceFault::WrongCount);
         }
         if let Some(i) = first_high(positions) {
             return Err(SourceFault::BadFigure(i));
         }
-        let Ok(positions) = Vec::from_slice(heap, positions) else {
-            return Err(SourceFault::NoMemory);
-        };
+        let positions = Vec::from_slice(heap, positions)?;
         Ok(Trunk { positions })
     }
 }
@@ -52,13 +45,8 @@ impl Source for Trunk {
     }
 
     fn distance(&self, a: u32, b: u32) -> Option<Km> {
-        let n = self.positions.len();
-        if (a as usize) < n && (b as usize) < n {
-            let p = self.positions[a as usize];
-            let q = self.positions[b as usize];
-            Some(Km(p.abs_diff(q)))
-        } else {
-            None
-        }
+        let p = self.positions.get(a as usize)?;
+        let q = self.positions.get(b as usize)?;
+        Some(Km(p.abs_diff(*q)))
     }
 }

@@ -2,7 +2,7 @@ use Rattle.std.proofs.Common.{◌≤◌, rules}
 use Rattle.network.specs.Limits.{longest}
 use Rattle.network.proofs.figures.figure.Goals as goal
 
-pub overflow_cast-result : goal.overflow_cast-result
-overflow_cast-result c =
-    let short : c.in-Some.k.0 ≤ longest = c.requires c.in-Some.k.0 (cc c.in-Some.is) in
+pub map_or-requires : goal.map_or-requires
+map_or-requires c x e =
+    let short : x.0 ≤ longest = c.requires x.0 (cc e) in
     search rules

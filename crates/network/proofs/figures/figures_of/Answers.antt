@@ -1,22 +1,42 @@
-use Rattle.std.proofs.Common.{◌≡◌, ℕ, ◌*◌, ◌/◌, ◌%◌, ◌<◌, ◌≤◌, List, get_or, vec_items, sym, ◌∙◌, subst, arith}
+use Rattle.std.proofs.Common.{◌≡◌, ℕ, ◌+◌, ◌*◌, ◌<◌, List, [], ◌∷◌, ◌++◌, length, vec_items, sym, ap, ◌∙◌, subst, ⊎_elim, arith}
+use Rattle.std.proofs.lemmas.List.{get_or_append_left, get_or_push}
+use Rattle.std.proofs.lemmas.Nat.{div-mul-add, mod-mul-add}
 use Rattle.network.specs.Net.{Net}
 use Rattle.network.specs.Grid.{figure_of}
+use Rattle.network.specs.Nets.{below_or_not}
 use Rattle.network.specs.Grids.{tabulated}
+use Rattle.network.proofs.figures.figures_of.Invariants.{Told}
 use Rattle.network.proofs.figures.figures_of.Goals as goal
-
--- the invariant after the last turn, by the net's own count
-all : (net : Net) (ws : List ℕ) (n i : ℕ) → n ≡ net.stations → n * n ≤ i
-    → ((k : ℕ) → k < i → get_or ws k 0 ≡ figure_of (net.distance (k / n) (k % n)))
-    → (k : ℕ) → k < net.stations * net.stations → get_or ws k 0 ≡ figure_of (net.distance (k / net.stations) (k % net.stations))
-all net ws n i e l h =
-    subst (λ (x : ℕ). (k : ℕ) → k < x * x → get_or ws k 0 ≡ figure_of (net.distance (k / x) (k % x))) e (λ k p. h k (omega arith))
 
 pub figure-requires : goal.figure-requires
 figure-requires g c = λ k e. (g.met.S.Source.lawful c.args.source.now).short _ _ k (sym c.distance.ensures ∙ e)
 
+-- once the figure from a to b is pushed
+pushed : (net : Net) (n a b x : ℕ) (ws : List ℕ) → length ws ≡ a * n + b → b < n → x ≡ figure_of (net.distance a b) → Told net n (a * n + b) ws → Told net n (a * n + (b + 1)) (ws ++ x ∷ [])
+pushed net n a b x ws len hb is told k h =
+    ⊎_elim
+    (λ l. get_or_append_left ws (x ∷ []) 0 k (omega arith) ∙ told k l)
+    (λ m.
+    let e : k ≡ a * n + b = omega arith in
+    rw e (simp (div-mul-add a n b hb, mod-mul-add a n b hb) (get_or_push ws x 0 (a * n + b) len ∙ is)))
+    (below_or_not k (a * n + b))
+
+pub loop-b-preserved : goal.loop-b-preserved
+loop-b-preserved g c =
+    let net = g.S.Source.net c.args.source.now in
+    let n = c.stations-n.result in
+    let a = c.loop-a.a in
+    let b = c.loop-b.b in
+    let told =
+    pushed net n a b c.figure.result (vec_items c.loop-b.figures) (omega arith) c.loop-b-test.true
+    (c.figure.ensures ∙ ap figure_of c.distance.ensures) c.loop-b.invariant.1 in
+    (omega (arith, c.in_ok-push.ensures.len), subst (Told net n (a * n + (b + 1))) (sym c.in_ok-push.ensures.items) told)
+
 pub returns : goal.returns
 returns g c =
     let net = g.S.Source.net c.args.source.now in
-    let ws = vec_items c.loop-i.figures in
+    let n = c.stations-n.result in
+    let ws = vec_items c.loop-a.figures in
+    let all : c.loop-a.a ≡ n = omega arith in
     tabulated net (g.met.S.Source.lawful c.args.source.now) ws
-    (all net ws c.stations-n.result c.loop-i.i c.stations-n.ensures c.loop-i-test.false c.loop-i.invariant.1)
+    (subst (λ (x : ℕ). Told net x (x * x) ws) c.stations-n.ensures (subst (λ (x : ℕ). Told net n (x * n) ws) all c.loop-a.invariant.1))

@@ -1,4 +1,4 @@
-use Rattle.std.proofs.Common.{Some}
+use Rattle.network.specs.Link.{via}
 use Rattle.network.specs.Links.{capped_parts}
 use Rattle.network.proofs.link.methods.LinkSource.distance.Goals as goal
 
@@ -8,7 +8,5 @@ returns g c =
     let n = g.S.Source.net t.below in
     let a = c.args.a in
     let b = c.args.b in
-    let whole =
-    capped_parts (n.distance a b) (n.distance a t.p) (n.distance t.q b) (n.distance a t.q) (n.distance t.p b) (Some t.length.0)
-    ((g.met.S.Source.lawful t.below).short a b) in
+    let parts = capped_parts (n.distance a b) (via n t.p t.q t.length.0 a b) (via n t.q t.p t.length.0 a b) ((g.met.S.Source.lawful t.below).short a b) in
     cc
