@@ -1,14 +1,8 @@
 -- Parts of a text: what stands before a byte, and what lies inside.
-use Rattle.std.proofs.Common.{◌≡◌, ℕ, suc, ◌+◌, ◌-◌, ◌<◌, ◌≤◌, min, [], length, get_or, take, drop, sym, ap, ◌∙◌, ⊎_elim, arith}
-use Rattle.std.proofs.lemmas.List.{at_drop_more, length-take, length-drop, take_rest, take_all, drop_all}
-use Rattle.std.proofs.lemmas.Bool.{eq-eqb, ne_eqb, cases_lt}
-use Rattle.lines.specs.Bytes.{Text, before, part}
-
-pub before_hit : (sep : ℕ) (s : Text) (i : ℕ) → i < length s → get_or s i 0 ≡ sep → length (before sep (drop i s)) ≡ 0
-before_hit sep s i lt e = at_drop_more (λ xs. length (before sep xs)) s i 0 lt ∙ rw (eq-eqb _ _ e)
-
-pub before_miss : (sep : ℕ) (s : Text) (i : ℕ) → i < length s → (get_or s i 0 ≡ sep → ⊥) → length (before sep (drop i s)) ≡ suc (length (before sep (drop (i + 1) s)))
-before_miss sep s i lt e = at_drop_more (λ xs. length (before sep xs)) s i 0 lt ∙ rw (ne_eqb _ _ e)
+use Rattle.std.proofs.Common.{◌≡◌, ℕ, ◌+◌, ◌-◌, ◌<◌, ◌≤◌, min, [], length, take, drop, sym, ap, ◌∙◌, ⊎_elim, arith}
+use Rattle.std.proofs.lemmas.List.{length-take, length-drop, take_rest, take_all, drop_all}
+use Rattle.std.proofs.lemmas.Bool.{cases_lt}
+use Rattle.lines.specs.Bytes.{Text, part}
 
 -- A part that is cut where the sheet ends: f is where it begins, m how long it is.
 pub clamped : (sheet : Text) (at k f m : ℕ) → f ≡ min at (length sheet) → m ≡ min k (length sheet - f) → take (m - 0) (take (length sheet - f) (drop f sheet)) ≡ part sheet at k

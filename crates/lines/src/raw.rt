@@ -1,9 +1,10 @@
 // A line as it stands in its sheet.
 ghost use Rattle.std.specs.Prelude.{◌≡◌, ◌≤◌, [], length, drop, MatchOption};
+ghost use Rattle.std.specs.Iterator.{YieldsFirstBy, item_count};
 ghost use Rattle.lines.specs.Lines.{lines, LinesOf};
-ghost use Rattle.lines.specs.Seen.{sheet_of, bytes_of, raw_of, next_of, BeginsAt};
+ghost use Rattle.lines.specs.Seen.{sheet_of, bytes_of, raw_of, next_of, BeginsAt, lines_left};
 
-use crate::bytes::{LINE_FEED, find};
+use crate::bytes::LINE_FEED;
 
 // The `len` bytes at the place `at` of the sheet. A line feed ends it where the sheet goes on after them.
 #[derive(Clone, Copy)]
@@ -21,8 +22,42 @@ pub fn line_at(sheet: &[u8], at: usize) -> Option<RawLine<'_>>
     if at >= sheet.len() {
         return None;
     }
-    let len = find(&sheet[at..], LINE_FEED);
+    let rest = &sheet[at..];
+    let len = rest
+        .iter()
+        .position(|b| *b == LINE_FEED)
+        .unwrap_or(rest.len());
     Some(RawLine { sheet, at, len })
+}
+
+// The lines of a sheet from the place `at` on.
+#[derive(Drop)]
+pub struct Lines<'a> {
+    sheet: &'a [u8],
+    at: usize,
+}
+
+impl<'a> Lines<'a> {
+    // All lines of a sheet.
+    pub fn new(sheet: &'a [u8]) -> Lines<'a>
+        ensures { lines_left result ≡ lines sheet.now }
+    {
+        Lines { sheet, at: 0 }
+    }
+}
+
+impl<'a> Iterator for Lines<'a> {
+    type Item = RawLine<'a>;
+
+    ghost next_gives = { YieldsFirstBy raw_of lines_left };
+
+    ghost remaining = { item_count lines_left };
+
+    fn next(&mut self) -> Option<RawLine<'a>> {
+        let line = line_at(self.sheet, self.at)?;
+        self.at = line.next();
+        Some(line)
+    }
 }
 
 impl<'a> RawLine<'a> {
