@@ -85,6 +85,18 @@ lines_join (b ∷ bs) = go (eqb b 10) refl (lines_join bs)
     go true e ih = rw e (ap (λ l. 10 ∷ l) ih ∙ ap (λ x. x ∷ bs) (sym (eqb-true b 10 e)))
     go false e ih = rw e (with_joined b (lines bs) ∙ ap (λ l. b ∷ l) ih)
 
+with_few : (b : ℕ) (ls : List Raw) → length (with_byte b ls) ≤ suc (length ls)
+with_few b [] = omega arith
+with_few b (l ∷ ls) = omega arith
+
+-- there are no more lines than bytes
+pub lines_few : (bs : Text) → length (lines bs) ≤ length bs
+lines_few [] = omega arith
+lines_few (b ∷ bs) = elim (eqb b 10) as (λ t. length (cond t (raw [] true ∷ lines bs) (with_byte b (lines bs))) ≤ length (b ∷ bs)) [
+    | true ↦ omega (arith, lines_few bs)
+    | false ↦ omega (arith, lines_few bs, with_few b (lines bs))
+  ]
+
 abbrev Unbroken : List Raw → Type 0
 Unbroken ls = AllByRecursion (λ l. Lacks line_feed l.bytes) ls
 
