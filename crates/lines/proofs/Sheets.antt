@@ -93,9 +93,9 @@ with_few b (l ∷ ls) = omega arith
 pub lines_few : (bs : Text) → length (lines bs) ≤ length bs
 lines_few [] = omega arith
 lines_few (b ∷ bs) = elim (eqb b 10) as (λ t. length (cond t (raw [] true ∷ lines bs) (with_byte b (lines bs))) ≤ length (b ∷ bs)) [
-    | true ↦ omega (arith, lines_few bs)
-    | false ↦ omega (arith, lines_few bs, with_few b (lines bs))
-  ]
+  | true ↦ omega (arith, lines_few bs)
+  | false ↦ omega (arith, lines_few bs, with_few b (lines bs))
+]
 
 abbrev Unbroken : List Raw → Type 0
 Unbroken ls = AllByRecursion (λ l. Lacks line_feed l.bytes) ls

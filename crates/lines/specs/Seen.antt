@@ -1,6 +1,6 @@
 -- What the lines and words of the code stand for.
 use Rattle.std.specs.Prelude.{◌≡◌, ℕ, ◌+◌, ◌<◌, ◌≤◌, cond, List, ◌∷◌, length, drop, nat_lt}
-use Rattle.lines.specs.declared.raw.Lines.{Lines}
+use Rattle.lines.specs.declared.raw.methods.Lines.{Lines}
 use Rattle.lines.specs.declared.raw.RawLine.{RawLine}
 use Rattle.lines.specs.declared.words.Word.{Word}
 use Rattle.lines.specs.Bytes.{Text, part}

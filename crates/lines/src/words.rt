@@ -2,7 +2,7 @@
 ghost use Rattle.std.specs.Prelude.{◌≡◌, ◌+◌, ◌^◌, ◌<◌, map, length, IfOk};
 ghost use Rattle.std.specs.List.{AllByRecursion};
 ghost use Rattle.lines.specs.Words.{words, placed, WordsOf};
-ghost use Rattle.lines.specs.Seen.{sheet_of, bytes_of, Inside, text_of, seen, PartOf};
+ghost use Rattle.lines.specs.Seen.{sheet_of, bytes_of, text_of, seen, PartOf};
 
 use crate::bytes::SPACE;
 use crate::raw::RawLine;
@@ -32,7 +32,7 @@ fn split<'a>(heap: Global, line: &'a [u8], at: usize) -> Result<Vec<Word<'a>>, A
 // The words of a line, each with its place in the whole sheet.
 pub fn words_of(heap: Global, line: RawLine<'_>) -> Result<Vec<Word<'_>>, AllocError>
     ensures seen { IfOk result (λ v. map seen v.items ≡ placed line.entry.at (words (bytes_of line.entry))) }
-    ensures parts { IfOk result (λ v. Inside line.entry → AllByRecursion (PartOf (sheet_of line.entry)) v.items) }
+    ensures parts { IfOk result (λ v. AllByRecursion (PartOf (sheet_of line.entry)) v.items) }
     ensures law { IfOk result (λ v. WordsOf (bytes_of line.entry) (map text_of v.items)) }
 {
     split(heap, line.bytes(), line.place())

@@ -5,7 +5,7 @@ use Rattle.std.proofs.lemmas.Iterator.Search.{position_from_yields_List}
 use Rattle.std.specs.Option.{unwrap_or}
 use Rattle.lines.specs.Lines.{lines}
 use Rattle.lines.proofs.Sheets.{first_feed, first_within, first_found, line_at, onward, lines_of}
-use Rattle.lines.proofs.raw.line_at.Goals as goal
+use Rattle.lines.proofs.raw.methods.line_at.Goals as goal
 
 pub returns-then-at-sheet : goal.returns-then-at-sheet
 returns-then-at-sheet c =
