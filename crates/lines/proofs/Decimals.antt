@@ -63,15 +63,8 @@ decimal_short n few = length-decimal-le 9 n (omega arith) few (omega arith)
 pub reads : (w : Text) → Reads Writes w (number_of w)
 reads w = record { only = written w; all = λ n h. ap number_of h.digits ∙ number_decimal n h.small }
 
--- what has no digits, or more than nine, or a 0 in front of others, is no number
-pub unwritten : (w : Text) → (length w ≡ 0) ⊎ (9 < length w) → None ≡ number_of w
-unwritten w h = grind (arith, nat_tests)
-
-pub unpadded : (w : Text) → 1 < length w → get_or w 0 0 ≡ 48 → None ≡ number_of w
-unpadded w h e = grind (arith, nat_tests)
-
-pub well_written : (w : Text) → 0 < length w → length w ≤ 9 → (length w ≤ 1) ⊎ (get_or w 0 0 ≡ 48 → ⊥) → read_on 0 w ≡ number_of w
-well_written w lo hi lead = grind (arith, nat_tests)
+pub reads_is : (w : Text) (r : Option ℕ) → r ≡ number_of w → Reads Writes w r
+reads_is w r e = subst (Reads Writes w) (sym e) (reads w)
 
 -- a number begins with a digit, and so with no minus
 unsigned : (w : Text) (n : ℕ) → number_of w ≡ Some n → get_or w 0 0 ≡ 45 → ⊥
@@ -118,3 +111,6 @@ read_signed w (negsuc m) h =
 
 pub reads_signed : (w : Text) → Reads WritesSigned w (signed_of w)
 reads_signed w = record { only = written_signed w; all = read_signed w }
+
+pub reads_signed_is : (w : Text) (r : Option ℤ) → r ≡ signed_of w → Reads WritesSigned w r
+reads_signed_is w r e = subst (Reads WritesSigned w) (sym e) (reads_signed w)

@@ -1,4 +1,3 @@
-pub mod Cuts
 pub mod Sheets
 pub mod Splits
 pub mod Places

@@ -1,10 +1,10 @@
 -- A word is the part of the sheet at its place.
 use Rattle.std.proofs.Common.{◌≡◌, ℕ, suc, ◌+◌, ◌≤◌, Bool, true, false, cond, eqb, List, [], ◌∷◌, ◌++◌, map, length, take, drop, sym, refl, ap, ◌∙◌, subst, arith}
-use Rattle.std.specs.List.{AllByRecursion}
+use Rattle.std.specs.List.{AllByRecursion, onto_first}
 use Rattle.std.proofs.lemmas.List.{drop-drop, length-drop, take-append-drop}
 use Rattle.lines.specs.declared.words.Word.{Word}
 use Rattle.lines.specs.Bytes.{Text, part}
-use Rattle.lines.specs.Words.{words, placed, onto_first}
+use Rattle.lines.specs.Words.{words, placed}
 use Rattle.lines.specs.Seen.{seen, text_of, PartOf}
 
 -- the texts of placed words

@@ -1,46 +1,65 @@
 -- The lines of a sheet: the first of them, and that they alone make it up.
-use Rattle.std.proofs.Common.{◌≡◌, ℕ, suc, ◌+◌, ◌<◌, ◌≤◌, Bool, true, false, cond, eqb, ltb, List, [], ◌∷◌, ◌++◌, length, take, drop, sym, refl, ap, ◌∙◌, ⊎_elim, add-one, arith}
-use Rattle.std.specs.List.{AllByRecursion}
+use Rattle.std.proofs.Common.{◌≡◌, ℕ, suc, ◌+◌, ◌<◌, ◌≤◌, Bool, true, false, cond, eqb, ltb, List, [], ◌∷◌, ◌++◌, length, Some, None, Option, take, drop, sym, refl, ap, ◌∙◌, ⊎_elim, add-one, arith}
+use Rattle.std.specs.List.{AllByRecursion, position_or_len}
 use Rattle.std.proofs.lemmas.List.{length-drop, drop-drop, take_all, drop_all}
+use Rattle.std.specs.Option.{unwrap_or}
+use Rattle.std.proofs.lemmas.Grind.{common_steps}
+use Rattle.std.proofs.lemmas.List.Recursion.{is_position_or_len}
 use Rattle.std.proofs.lemmas.Bool.{cases_lt, lt-ltb, le-ltb, eqb-true, eqb-false, ne_eqb}
-use Rattle.lines.specs.Bytes.{Text, line_feed, before, part, Lacks}
+use Rattle.lines.specs.Bytes.{Text, line_feed, part, Lacks}
 use Rattle.lines.specs.Lines.{Raw, raw, lines, with_byte, joined_lines, Ended, LinesOf}
 
+-- where the first line feed stands, or how many bytes there are
+abbrev pub first_feed : Text → ℕ
+first_feed [] = 0
+first_feed (b ∷ bs) = cond (eqb b 10) 0 (suc (first_feed bs))
+
+pub first_is : (bs : Text) → first_feed bs ≡ position_or_len (λ b. eqb b 10) bs
+first_is = is_position_or_len first_feed (λ b. eqb b 10) refl (λ x xs. ap (cond (eqb x 10) 0) (omega arith))
+
+pub first_within : (bs : Text) → first_feed bs ≤ length bs
+first_within [] = omega arith
+first_within (b ∷ bs) = elim (eqb b 10) as (λ t. cond t 0 (suc (first_feed bs)) ≤ length (b ∷ bs)) [ true ↦ omega arith | false ↦ omega (arith, first_within bs) ]
+
+-- the length where none is found
+pub first_found : (bs : Text) (o : Option ℕ) → o ≡ cond (ltb (position_or_len (λ b. eqb b 10) bs) (length bs)) (Some (position_or_len (λ b. eqb b 10) bs)) None → unwrap_or o (length bs) ≡ first_feed bs
+first_found bs o e = grind (arith, common_steps, e, first_is bs, first_within bs)
+
 -- the line before the first line feed, and the lines after it
-lines_more : (bs : Text) → length (before 10 bs) < length bs → lines bs ≡ raw (take (length (before 10 bs)) bs) true ∷ lines (drop (suc (length (before 10 bs))) bs)
+lines_more : (bs : Text) → first_feed bs < length bs → lines bs ≡ raw (take (first_feed bs) bs) true ∷ lines (drop (suc (first_feed bs)) bs)
 lines_more [] h = absurd (omega arith)
 lines_more (b ∷ bs) h = go (eqb b 10) refl h (lines_more bs)
   where
-    go : (t : Bool) → eqb b 10 ≡ t → length (before 10 (b ∷ bs)) < length (b ∷ bs)
-        → (length (before 10 bs) < length bs → lines bs ≡ raw (take (length (before 10 bs)) bs) true ∷ lines (drop (suc (length (before 10 bs))) bs))
-        → lines (b ∷ bs) ≡ raw (take (length (before 10 (b ∷ bs))) (b ∷ bs)) true ∷ lines (drop (suc (length (before 10 (b ∷ bs)))) (b ∷ bs))
+    go : (t : Bool) → eqb b 10 ≡ t → first_feed (b ∷ bs) < length (b ∷ bs)
+        → (first_feed bs < length bs → lines bs ≡ raw (take (first_feed bs) bs) true ∷ lines (drop (suc (first_feed bs)) bs))
+        → lines (b ∷ bs) ≡ raw (take (first_feed (b ∷ bs)) (b ∷ bs)) true ∷ lines (drop (suc (first_feed (b ∷ bs))) (b ∷ bs))
     go true e l ih = rw e
     go false e l ih = let m = rw e at l in rw e (ap (with_byte b) (ih (omega arith)))
 
 -- bytes with no line feed are one unended line
-lines_last : (bs : Text) → 0 < length bs → length bs ≤ length (before 10 bs) → lines bs ≡ raw bs false ∷ []
+lines_last : (bs : Text) → 0 < length bs → length bs ≤ first_feed bs → lines bs ≡ raw bs false ∷ []
 lines_last [] z h = absurd (omega arith)
 lines_last (b ∷ []) z h = go (eqb b 10) refl h
   where
-    go : (t : Bool) → eqb b 10 ≡ t → length (b ∷ []) ≤ length (before 10 (b ∷ [])) → lines (b ∷ []) ≡ raw (b ∷ []) false ∷ []
+    go : (t : Bool) → eqb b 10 ≡ t → length (b ∷ []) ≤ first_feed (b ∷ []) → lines (b ∷ []) ≡ raw (b ∷ []) false ∷ []
     go true e l = let m = rw e at l in absurd (omega arith)
     go false e l = rw e
 lines_last (b ∷ d ∷ bs) z h = go (eqb b 10) refl h (lines_last (d ∷ bs) (omega arith))
   where
-    go : (t : Bool) → eqb b 10 ≡ t → length (b ∷ d ∷ bs) ≤ length (before 10 (b ∷ d ∷ bs))
-        → (length (d ∷ bs) ≤ length (before 10 (d ∷ bs)) → lines (d ∷ bs) ≡ raw (d ∷ bs) false ∷ [])
+    go : (t : Bool) → eqb b 10 ≡ t → length (b ∷ d ∷ bs) ≤ first_feed (b ∷ d ∷ bs)
+        → (length (d ∷ bs) ≤ first_feed (d ∷ bs) → lines (d ∷ bs) ≡ raw (d ∷ bs) false ∷ [])
         → lines (b ∷ d ∷ bs) ≡ raw (b ∷ d ∷ bs) false ∷ []
     go true e l ih = let m = rw e at l in absurd (omega arith)
     go false e l ih = let m = rw e at l in rw e (ap (with_byte b) (ih (omega arith)))
 
 -- the line at the place at, whose first line feed stands k bytes on
-pub line_at : (sheet : Text) (at k : ℕ) → at < length sheet → k ≡ length (before 10 (drop at sheet))
+pub line_at : (sheet : Text) (at k : ℕ) → at < length sheet → k ≡ first_feed (drop at sheet)
     → lines (drop at sheet) ≡ raw (part sheet at k) (ltb (at + k) (length sheet)) ∷ lines (drop (cond (ltb (at + k) (length sheet)) (at + k + 1) (length sheet)) sheet)
 line_at sheet at k some is =
     let long = length-drop at sheet in
     ⊎_elim
     (λ lt.
-    let short : length (before 10 (drop at sheet)) < length (drop at sheet) = omega arith in
+    let short : first_feed (drop at sheet) < length (drop at sheet) = omega arith in
     let next : at + k + 1 ≡ at + (k + 1) = omega arith in
     rw (lt-ltb (at + k) (length sheet) lt, next, is, ← drop-drop, add-one) (lines_more (drop at sheet) short))
     (λ le. rw (le-ltb (at + k) (length sheet) le, take_all k (drop at sheet) (omega arith), drop_all (length sheet) sheet (omega arith)) (lines_last (drop at sheet) (omega arith) (omega arith)))
@@ -65,6 +84,18 @@ lines_join (b ∷ bs) = go (eqb b 10) refl (lines_join bs)
     go : (t : Bool) → eqb b 10 ≡ t → joined_lines (lines bs) ≡ bs → joined_lines (lines (b ∷ bs)) ≡ b ∷ bs
     go true e ih = rw e (ap (λ l. 10 ∷ l) ih ∙ ap (λ x. x ∷ bs) (sym (eqb-true b 10 e)))
     go false e ih = rw e (with_joined b (lines bs) ∙ ap (λ l. b ∷ l) ih)
+
+with_few : (b : ℕ) (ls : List Raw) → length (with_byte b ls) ≤ suc (length ls)
+with_few b [] = omega arith
+with_few b (l ∷ ls) = omega arith
+
+-- there are no more lines than bytes
+pub lines_few : (bs : Text) → length (lines bs) ≤ length bs
+lines_few [] = omega arith
+lines_few (b ∷ bs) = elim (eqb b 10) as (λ t. length (cond t (raw [] true ∷ lines bs) (with_byte b (lines bs))) ≤ length (b ∷ bs)) [
+  | true ↦ omega (arith, lines_few bs)
+  | false ↦ omega (arith, lines_few bs, with_few b (lines bs))
+]
 
 abbrev Unbroken : List Raw → Type 0
 Unbroken ls = AllByRecursion (λ l. Lacks line_feed l.bytes) ls

@@ -1,47 +1,14 @@
 -- The words of a line: the first of them, and that they alone make it up.
-use Rattle.std.proofs.Common.{◌≡◌, ℕ, suc, ◌+◌, ◌<◌, ◌≤◌, Bool, true, false, cond, eqb, List, [], ◌∷◌, ◌++◌, length, take, drop, sym, refl, ap, ◌∙◌, add-one, arith}
-use Rattle.std.specs.List.{AllByRecursion}
+use Rattle.std.proofs.Common.{◌≡◌, ℕ, zero, suc, ◌+◌, ◌<◌, ◌≤◌, Bool, true, false, cond, eqb, List, [], ◌∷◌, ◌++◌, map, Some, Option, length, get_or, take, drop, sym, refl, ap, ◌∙◌, add-one, arith}
+use Rattle.std.specs.List.{AllByRecursion, onto_first}
+use Rattle.std.specs.Iterator.{Yields}
+use Rattle.std.proofs.lemmas.Iterator.{YieldsList}
+use Rattle.std.proofs.lemmas.Iterator.Consumers.{YieldsList-so_far, YieldsList-turn}
 use Rattle.std.proofs.lemmas.List.{length-drop, drop-drop, length-take-le, take_all, append_assoc}
 use Rattle.std.proofs.lemmas.Bool.{eqb-true, eqb-false, ne_eqb}
-use Rattle.lines.specs.Bytes.{Text, space, before, Lacks}
-use Rattle.lines.specs.Words.{words, onto_first, placed, spaced, WordsOf}
-
--- the first word, and the words after its space
-words_more : (bs : Text) → length (before 32 bs) < length bs → words bs ≡ take (length (before 32 bs)) bs ∷ words (drop (suc (length (before 32 bs))) bs)
-words_more [] h = absurd (omega arith)
-words_more (b ∷ bs) h = go (eqb b 32) refl h (words_more bs)
-  where
-    go : (t : Bool) → eqb b 32 ≡ t → length (before 32 (b ∷ bs)) < length (b ∷ bs)
-        → (length (before 32 bs) < length bs → words bs ≡ take (length (before 32 bs)) bs ∷ words (drop (suc (length (before 32 bs))) bs))
-        → words (b ∷ bs) ≡ take (length (before 32 (b ∷ bs))) (b ∷ bs) ∷ words (drop (suc (length (before 32 (b ∷ bs)))) (b ∷ bs))
-    go true e l ih = rw e
-    go false e l ih = let m = rw e at l in rw e (ap (onto_first b) (ih (omega arith)))
-
--- bytes with no space are one word
-words_last : (bs : Text) → length bs ≤ length (before 32 bs) → words bs ≡ bs ∷ []
-words_last [] h = refl
-words_last (b ∷ bs) h = go (eqb b 32) refl h (words_last bs)
-  where
-    go : (t : Bool) → eqb b 32 ≡ t → length (b ∷ bs) ≤ length (before 32 (b ∷ bs)) → (length bs ≤ length (before 32 bs) → words bs ≡ bs ∷ []) → words (b ∷ bs) ≡ (b ∷ bs) ∷ []
-    go true e l ih = let m = rw e at l in absurd (omega arith)
-    go false e l ih = let m = rw e at l in rw e (ap (onto_first b) (ih (omega arith)))
-
--- One turn of the loop that splits a line: rest is what is left of it, n is where the next space stands, and t the word before it.
-module _ (at i n : ℕ) (line rest t : Text) (out all : List (ℕ × Text)) (left : rest ≡ drop i line) (is : n ≡ length (before 32 rest)) (cut : t ≡ take n (drop i line)) where
-  pub one_word : i + n < length line → out ++ placed (at + i) (words (drop i line)) ≡ all → (out ++ (at + i, t) ∷ []) ++ placed (at + (i + (n + 1))) (words (drop (i + (n + 1)) line)) ≡ all
-  one_word lt was =
-      let is' : n ≡ length (before 32 (drop i line)) = is ∙ ap (λ r. length (before 32 r)) left in
-      let short : n < length (drop i line) = simp length-drop (omega arith) in
-      let parts : words (drop i line) ≡ t ∷ words (drop (i + (n + 1)) line) = rw (cut, ← drop-drop, is', add-one) (words_more (drop i line) (omega arith)) in
-      let long : length t ≡ n = ap length cut ∙ length-take-le n (drop i line) (omega arith) in
-      let next : at + (i + (n + 1)) ≡ at + i + length t + 1 = omega arith in
-      append_assoc out _ _ ∙ ap (λ p. out ++ (at + i, t) ∷ placed p (words (drop (i + (n + 1)) line))) next ∙ ap (λ ws. out ++ placed (at + i) ws) (sym parts) ∙ was
-
-  pub last_word : i ≤ length line → length line ≤ i + n → out ++ placed (at + i) (words (drop i line)) ≡ all → out ++ (at + i, t) ∷ [] ≡ all
-  last_word lt le was =
-      let is' : n ≡ length (before 32 (drop i line)) = is ∙ ap (λ r. length (before 32 r)) left in
-      let long : length (drop i line) ≤ n = simp length-drop (omega arith) in
-      rw (cut, take_all n (drop i line) long) (ap (λ ws. out ++ placed (at + i) ws) (sym (words_last (drop i line) (omega arith))) ∙ was)
+use denote.Ref.{Bor}
+use Rattle.lines.specs.Bytes.{Text, space, Lacks}
+use Rattle.lines.specs.Words.{words, placed, spaced, WordsOf}
 
 onto_some : (b : ℕ) (ws : List Text) → 0 < length (onto_first b ws)
 onto_some b [] = omega arith
@@ -98,3 +65,44 @@ words_of bs =
       make = record { some = some_word bs; unspaced = words_lack bs; joined = words_join bs };
       only = λ vs m. only_words bs vs m.some m.unspaced m.joined;
     }
+
+-- the bytes of words, and one more for each
+abbrev pub span : List Text → ℕ
+span [] = 0
+span (w ∷ ws) = length w + 1 + span ws
+
+span_onto : (b : ℕ) (ws : List Text) → 0 < length ws → span (onto_first b ws) ≡ 1 + span ws
+span_onto b [] h = absurd (omega arith)
+span_onto b (w ∷ ws) h = omega arith
+
+pub span_words : (bs : Text) → span (words bs) ≡ length bs + 1
+span_words [] = refl
+span_words (b ∷ bs) = go (eqb b 32) refl (span_words bs)
+  where
+    go : (t : Bool) → eqb b 32 ≡ t → span (words bs) ≡ length bs + 1 → span (words (b ∷ bs)) ≡ length (b ∷ bs) + 1
+    go true e ih = rw e (omega (arith, ih))
+    go false e ih = rw e (span_onto b (words bs) (some_word bs) ∙ omega (arith, ih))
+
+-- one word more
+pub placed_push : (at : ℕ) (ws : List Text) (w : Text) → placed at (ws ++ w ∷ []) ≡ placed at ws ++ (at + span ws, w) ∷ []
+placed_push at [] w = ap (λ k. (k, w) ∷ []) (omega arith)
+placed_push at (v ∷ ws) w =
+    ap (λ l. (at, v) ∷ l) (placed_push (at + length v + 1) ws w ∙ ap (λ k. placed (at + length v + 1) ws ++ (k, w) ∷ []) (omega arith))
+
+pub span_push : (ws : List Text) (w : Text) → span (ws ++ w ∷ []) ≡ span ws + length w + 1
+span_push [] w = omega arith
+span_push (v ∷ ws) w = omega (arith, span_push ws w)
+
+-- the words up to one of them have no more bytes than all
+pub span_turn : (all : List Text) (k : ℕ) (w : Text) → k < length all → w ≡ get_or all k w → span (take k all) + length w + 1 ≤ span all
+span_turn [] k w h e = absurd (omega arith)
+span_turn (v ∷ all) zero w h e = omega (arith, ap length e)
+span_turn (v ∷ all) (suc k) w h e = omega (arith, span_turn all k w (omega arith) e)
+
+-- one word of a line, and those before it, are no longer than the line
+pub within : {S : Type 0} {steps : S → Option (Bor Text) → S → Type 0} {s : S} (line : Text) → YieldsList steps (λ t. t.now) s (words line)
+    → (xs : List (Bor Text)) (t : S) → Yields steps s xs t → (r : Option (Bor Text)) (u : S) (x : Bor Text) → r ≡ Some x → steps t r u
+    → (i : ℕ) → i ≡ span (map (λ y. y.now) xs) → i + length x.now ≤ length line
+within line road xs t y r u x is step i e =
+    let turn = YieldsList-turn road xs t y r u x is step in
+    omega (arith, e, span_turn (words line) (length xs) x.now turn.0 turn.1, ap span (YieldsList-so_far road xs t y), span_words line)

@@ -1,5 +1,5 @@
 -- The bytes that a sheet is made of, and parts of it.
-use Rattle.std.specs.Prelude.{◌≡◌, ℕ, cond, List, [], ◌∷◌, take, drop, ◌==◌, ◌≢◌}
+use Rattle.std.specs.Prelude.{ℕ, List, take, drop, ◌≢◌}
 use Rattle.std.specs.List.{AllByRecursion}
 
 -- bytes in a row: a sheet, a line or a word
@@ -18,11 +18,6 @@ minus_sign = 45
 -- the digit 0; the others follow it
 abbrev pub zero_digit : ℕ
 zero_digit = 48
-
--- the bytes before the first byte s, or all of them
-abbrev pub before : ℕ → Text → Text
-before s [] = []
-before s (b ∷ bs) = cond (b == s) [] (b ∷ before s bs)
 
 -- the k bytes of a sheet that stand at the place at
 abbrev pub part : Text → ℕ → ℕ → Text

@@ -1,5 +1,6 @@
 -- What the lines and words of the code stand for.
-use Rattle.std.specs.Prelude.{◌≡◌, ℕ, ◌+◌, ◌<◌, ◌≤◌, cond, ◌∷◌, length, drop, nat_lt}
+use Rattle.std.specs.Prelude.{◌≡◌, ℕ, ◌+◌, ◌<◌, ◌≤◌, cond, List, ◌∷◌, length, drop, nat_lt}
+use Rattle.lines.specs.declared.raw.methods.Lines.{Lines}
 use Rattle.lines.specs.declared.raw.RawLine.{RawLine}
 use Rattle.lines.specs.declared.words.Word.{Word}
 use Rattle.lines.specs.Bytes.{Text, part}
@@ -32,6 +33,10 @@ pub record BeginsAt (sheet : Text) (at : ℕ) (l : RawLine) : Type 0 where
   pub inside : Inside l
   pub first : lines (drop at sheet) ≡ raw_of l ∷ lines (drop (next_of l) sheet)
   pub onward : at < next_of l
+
+-- the lines that are left of a sheet
+abbrev pub lines_left : Lines → List Raw
+lines_left s = lines (drop s.at s.sheet.now)
 
 -- the bytes of a word
 abbrev pub text_of : Word → Text

@@ -1,17 +1,11 @@
 -- The words of a line.
-use Rattle.std.specs.Prelude.{◌≡◌, ℕ, ◌+◌, ◌<◌, cond, List, [], ◌∷◌, ◌++◌, length, ◌==◌}
-use Rattle.std.specs.List.{AllByRecursion}
+use Rattle.std.specs.Prelude.{◌≡◌, ℕ, ◌+◌, ◌<◌, List, [], ◌∷◌, ◌++◌, length, ◌==◌}
+use Rattle.std.specs.List.{AllByRecursion, slice_split}
 use Rattle.lines.specs.Bytes.{Text, space, Lacks}
-
--- a byte before the first word
-abbrev pub onto_first : ℕ → List Text → List Text
-onto_first b [] = (b ∷ []) ∷ []
-onto_first b (w ∷ ws) = (b ∷ w) ∷ ws
 
 -- Each space parts two words, so a word may be empty, and an empty line is one empty word.
 abbrev pub words : Text → List Text
-words [] = [] ∷ []
-words (b ∷ bs) = cond (b == space) ([] ∷ words bs) (onto_first b (words bs))
+words line = slice_split (λ b. b == space) line
 
 -- words with their places: the first at the place at, and one space between each two
 abbrev pub placed : ℕ → List Text → List (ℕ × Text)

@@ -1,6 +1,5 @@
 // A line by its first word, with the words after it.
 ghost use Rattle.std.specs.Prelude.{◌≡◌, map, drop, IfOk};
-ghost use Rattle.std.specs.Str.{bytes_eq};
 ghost use Rattle.lines.specs.Meant.{line_words, meant};
 ghost use Rattle.lines.specs.Reading.{verb_of, asked, command_of};
 ghost use Rattle.lines.specs.Seen.{text_of};
@@ -9,12 +8,12 @@ use crate::faults::SheetFault;
 use crate::words::Word;
 
 // The figures of a closing.
-const CLOSING_FIGURES: usize = 12;
+pub(crate) const CLOSING_FIGURES: usize = 12;
 
 // Each case keeps its words as parts of the sheet. Close has one for each of its twelve figures.
 #[derive(Clone, Copy)]
 pub enum Line<'a> {
-    Close(&'a [Word<'a>]),
+    Close(&'a [Word<'a>; CLOSING_FIGURES]),
 }
 
 // The first words.
@@ -23,19 +22,12 @@ pub enum Verb {
     Close,
 }
 
-fn is_word(w: &[u8], name: &[u8]) -> bool
-    ensures { result ≡ bytes_eq w.now name.now }
-{
-    w == name
-}
-
 fn read_verb(w: &[u8]) -> Option<Verb>
     ensures { result ≡ verb_of w.now }
 {
-    if is_word(w, b"close") {
-        Some(Verb::Close)
-    } else {
-        None
+    match w {
+        b"close" => Some(Verb::Close),
+        _ => None,
     }
 }
 
@@ -45,13 +37,10 @@ fn shape<'a>(verb: Verb, words: &'a [Word<'a>], n: usize) -> Result<Line<'a>, Sh
     ensures asks { meant result ≡ asked n verb (map text_of words.now) }
 {
     match verb {
-        Verb::Close => {
-            if words.len() == CLOSING_FIGURES {
-                Ok(Line::Close(words))
-            } else {
-                Err(SheetFault::WordCount(n))
-            }
-        }
+        Verb::Close => words
+            .as_array()
+            .map(Line::Close)
+            .ok_or(SheetFault::WordCount(n)),
     }
 }
 
@@ -60,9 +49,7 @@ pub fn parse<'a>(words: &'a [Word<'a>], n: usize) -> Result<Line<'a>, SheetFault
     ensures kept { IfOk result (λ l. line_words l ≡ drop 1 words.now) }
     ensures asks { meant result ≡ command_of n (map text_of words.now) }
 {
-    let [first, rest @ ..] = words else {
-        return Err(SheetFault::UnknownWord(n));
-    };
+    let (first, rest) = words.split_first().ok_or(SheetFault::UnknownWord(n))?;
     let verb = read_verb(first.text).ok_or(SheetFault::UnknownWord(n))?;
     shape(verb, rest, n)
 }

@@ -25,40 +25,34 @@ fn digits(w: &[u8]) -> Option<u32>
 }
 
 // The number that a word writes: 0, or one to nine digits with no 0 in front.
+#[tactic(auto, using(crate::proofs::Decimals::reads_is))]
 pub fn number(w: &[u8]) -> Option<u32>
     ensures value { result ≡ number_of w.now }
     ensures bound { IfSome result (λ n. n < ten_digits) }
     ensures law { Reads Writes w.now result }
 {
-    if w.is_empty() || w.len() > MOST_DIGITS {
-        return None;
+    match w {
+        [] | [ZERO, _, ..] => None,
+        _ if w.len() > MOST_DIGITS => None,
+        _ => digits(w),
     }
-    if w.len() > 1 && w[0] == ZERO {
-        return None;
-    }
-    digits(w)
 }
 
 // The number below 0 that digits after a minus write.
 fn negative(w: &[u8]) -> Option<i32>
     ensures { result ≡ with_minus (number_of w.now) }
 {
-    match number(w) {
-        Some(n) => { if n > 0 { Some(-(n as i32)) } else { None } }
-        None => None,
-    }
+    number(w).filter(|n| *n > 0).map(|n| -(n as i32))
 }
 
 // The number that a word writes, which may bear a minus; there is no -0.
+#[tactic(auto, using(crate::proofs::Decimals::reads_signed_is))]
 pub fn signed(w: &[u8]) -> Option<i32>
     ensures value { result ≡ signed_of w.now }
     ensures law { Reads WritesSigned w.now result }
 {
-    if !w.is_empty() && w[0] == MINUS {
-        return negative(&w[1..]);
-    }
-    match number(w) {
-        Some(n) => Some(n as i32),
-        None => None,
+    match w {
+        [MINUS, digits @ ..] => negative(digits),
+        _ => number(w).map(|n| n as i32),
     }
 }

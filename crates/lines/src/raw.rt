@@ -1,9 +1,9 @@
 // A line as it stands in its sheet.
-ghost use Rattle.std.specs.Prelude.{◌≡◌, ◌≤◌, [], length, drop, MatchOption};
-ghost use Rattle.lines.specs.Lines.{lines, LinesOf};
-ghost use Rattle.lines.specs.Seen.{sheet_of, bytes_of, raw_of, next_of, BeginsAt};
+ghost use Rattle.std.specs.Prelude.{◌+◌, ◌≤◌, length};
 
-use crate::bytes::{LINE_FEED, find};
+mod methods;
+
+pub use methods::{Lines, line_at};
 
 // The `len` bytes at the place `at` of the sheet. A line feed ends it where the sheet goes on after them.
 #[derive(Clone, Copy)]
@@ -11,55 +11,5 @@ pub struct RawLine<'a> {
     sheet: &'a [u8],
     at: usize,
     len: usize,
-}
-
-// The line that begins at the place `at` of a sheet, or none at the sheet's end and past it.
-pub fn line_at(sheet: &[u8], at: usize) -> Option<RawLine<'_>>
-    ensures found { MatchOption result (lines (drop at sheet.now) ≡ []) (BeginsAt sheet.now at) }
-    ensures law { LinesOf sheet.now (lines sheet.now) }
-{
-    if at >= sheet.len() {
-        return None;
-    }
-    let len = find(&sheet[at..], LINE_FEED);
-    Some(RawLine { sheet, at, len })
-}
-
-impl<'a> RawLine<'a> {
-    // Its bytes, without the line feed.
-    pub(crate) fn bytes(self) -> &'a [u8]
-        ensures { result.now ≡ bytes_of self.entry }
-    {
-        let from = self.at.min(self.sheet.len());
-        let rest = &self.sheet[from..];
-        let len = self.len.min(rest.len());
-        &rest[0..len]
-    }
-
-    // Where it begins in its sheet.
-    pub(crate) fn place(self) -> usize
-        ensures { result ≡ self.entry.at }
-    {
-        let RawLine { at, .. } = self;
-        at
-    }
-
-    // Whether a line feed ends it.
-    pub fn ended(self) -> bool
-        ensures { result ≡ (raw_of self.entry).ended }
-    {
-        self.at.saturating_add(self.len) < self.sheet.len()
-    }
-
-    // Where the next line begins, if there is one.
-    pub fn next(self) -> usize
-        ensures value { result ≡ next_of self.entry }
-        ensures bound { result ≤ length (sheet_of self.entry) }
-    {
-        if self.ended() {
-            self.at + self.len + 1
-        } else {
-            self.sheet.len()
-        }
-    }
+    ghost inside: { at + len ≤ length sheet.now },
 }

@@ -1,12 +1,12 @@
 // What the lines of a sheet ask.
-ghost use Rattle.std.specs.Prelude.{◌≡◌, [], map, slice_index_or};
+ghost use Rattle.std.specs.Prelude.{◌≡◌, map};
 ghost use Rattle.lines.specs.Closings.{ReadsClosing};
 ghost use Rattle.lines.specs.Meant.{meaning};
-ghost use Rattle.lines.specs.Reading.{figure_of, signed_figure_of, closing_of, figures_of, read_close, sheet_fits, DueOrNoMemory};
+ghost use Rattle.lines.specs.Reading.{figure_word, figure_of, signed_figure_of, closing_of, figures_of, read_close, sheet_fits, DueOrNoMemory};
 ghost use Rattle.lines.specs.Seen.{text_of, raw_of};
 
 use crate::faults::SheetFault;
-use crate::line::{Line, parse};
+use crate::line::{CLOSING_FIGURES, Line, parse};
 use crate::numbers::{number, signed};
 use crate::raw::RawLine;
 use crate::words::{Word, words_of};
@@ -31,33 +31,39 @@ pub fn check_sheet(sheet: &[u8]) -> Result<(), SheetFault>
     Ok(())
 }
 
-// The text of a word, or the empty one past the last.
-fn text_at<'a>(words: &[Word<'a>], i: usize) -> &'a [u8]
-    ensures { result.now ≡ slice_index_or (map text_of words.now) i [] }
+// The word that writes a figure.
+fn word_of<'a>(words: &[Word<'a>; CLOSING_FIGURES], which: ClosingFigure) -> &'a [u8]
+    ensures { result.now ≡ figure_word (map text_of words.now) which }
 {
-    if i < words.len() { words[i].text } else { &[] }
+    words[which.number() - 1].text
 }
 
-fn figure(words: &[Word<'_>], which: ClosingFigure, n: usize) -> Result<u64, SheetFault>
+fn figure(
+    words: &[Word<'_>; CLOSING_FIGURES],
+    which: ClosingFigure,
+    n: usize,
+) -> Result<u64, SheetFault>
     ensures { result ≡ figure_of n (map text_of words.now) which }
 {
-    match number(text_at(words, which.number() - 1)) {
-        Some(x) => Ok(x as u64),
-        None => Err(SheetFault::BadNumber(n)),
-    }
+    number(word_of(words, which))
+        .map(u64::from)
+        .ok_or(SheetFault::BadNumber(n))
 }
 
-fn signed_figure(words: &[Word<'_>], which: ClosingFigure, n: usize) -> Result<i64, SheetFault>
+fn signed_figure(
+    words: &[Word<'_>; CLOSING_FIGURES],
+    which: ClosingFigure,
+    n: usize,
+) -> Result<i64, SheetFault>
     ensures { result ≡ signed_figure_of n (map text_of words.now) which }
 {
-    match signed(text_at(words, which.number() - 1)) {
-        Some(x) => Ok(x as i64),
-        None => Err(SheetFault::BadNumber(n)),
-    }
+    signed(word_of(words, which))
+        .map(i64::from)
+        .ok_or(SheetFault::BadNumber(n))
 }
 
 // The figures of a closing, read from the left.
-fn closing(words: &[Word<'_>], n: usize) -> Result<Figures, SheetFault>
+fn closing(words: &[Word<'_>; CLOSING_FIGURES], n: usize) -> Result<Figures, SheetFault>
     ensures { result ≡ closing_of n (map text_of words.now) }
 {
     let operating = figure(words, ClosingFigure::Operating, n)?;

@@ -1,6 +1,6 @@
 use crate::faults::SheetFault;
 use crate::numbers::{number, signed};
-use crate::raw::line_at;
+use crate::raw::{Lines, line_at};
 use crate::reading::{check_sheet, read_close};
 use crate::words::words_of;
 use revenue::figures::Figures;
@@ -13,26 +13,20 @@ use terms::refusals::{Part, Refusal};
 
 // What reading the first line of a sheet as line 7 comes back with.
 fn first(heap: Global, sheet: &[u8]) -> Result<Figures, SheetFault> {
-    match line_at(sheet, 0) {
-        Some(line) => read_close(heap, line, 7),
-        None => Err(SheetFault::NoMemory),
-    }
+    let line = line_at(sheet, 0).ok_or(SheetFault::NoMemory)?;
+    read_close(heap, line, 7)
 }
 
 // The number and the place with which it is refused.
 fn refused(heap: Global, sheet: &[u8]) -> Option<(u32, usize)> {
-    match first(heap, sheet) {
-        Ok(_) => None,
-        Err(fault) => Some((fault.number(), fault.place())),
-    }
+    let fault = first(heap, sheet).err()?;
+    Some((fault.number(), fault.place()))
 }
 
 // The line at a place: where the next begins, how many bytes it has, and whether it is ended.
 fn cut(sheet: &[u8], at: usize) -> Option<(usize, usize, bool)> {
-    match line_at(sheet, at) {
-        Some(line) => Some((line.next(), line.bytes().len(), line.ended())),
-        None => None,
-    }
+    let line = line_at(sheet, at)?;
+    Some((line.next(), line.bytes().len(), line.ended()))
 }
 
 #[test]
@@ -47,6 +41,19 @@ fn a_line_feed_ends_a_line_and_bytes_after_the_last_are_one_more(rt: HostRuntime
             Some((10, 4, false)),
             None,
         ]
+    );
+}
+
+#[test]
+fn a_sheet_gives_its_lines_in_their_order(rt: HostRuntime) {
+    let mut places = [0; 3];
+    for (place, line) in places.iter_mut().zip(Lines::new(b"ab c\n\nlast")) {
+        *place = line.place();
+    }
+    assert_eq!(rt; places, [0, 5, 6]);
+    assert_eq!(rt;
+        [Lines::new(b"ab c\n\nlast").count(), Lines::new(b"").count()],
+        [3, 0]
     );
 }
 

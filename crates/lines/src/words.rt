@@ -2,9 +2,9 @@
 ghost use Rattle.std.specs.Prelude.{◌≡◌, ◌+◌, ◌^◌, ◌<◌, map, length, IfOk};
 ghost use Rattle.std.specs.List.{AllByRecursion};
 ghost use Rattle.lines.specs.Words.{words, placed, WordsOf};
-ghost use Rattle.lines.specs.Seen.{sheet_of, bytes_of, Inside, text_of, seen, PartOf};
+ghost use Rattle.lines.specs.Seen.{sheet_of, bytes_of, text_of, seen, PartOf};
 
-use crate::bytes::{SPACE, find};
+use crate::bytes::SPACE;
 use crate::raw::RawLine;
 use std::alloc::{AllocError, Global};
 
@@ -22,24 +22,18 @@ fn split<'a>(heap: Global, line: &'a [u8], at: usize) -> Result<Vec<Word<'a>>, A
 {
     let mut out = Vec::new(heap);
     let mut i = 0;
-    loop {
-        let rest = &line[i..];
-        let n = find(rest, SPACE);
-        let text = &line[i..i + n];
+    for text in line.split(|b| *b == SPACE) {
         out.push(Word { text, at: at + i })?;
-        if i + n >= line.len() {
-            return Ok(out);
-        }
-        i += n + 1;
+        i += text.len() + 1;
     }
+    Ok(out)
 }
 
 // The words of a line, each with its place in the whole sheet.
 pub fn words_of(heap: Global, line: RawLine<'_>) -> Result<Vec<Word<'_>>, AllocError>
     ensures seen { IfOk result (λ v. map seen v.items ≡ placed line.entry.at (words (bytes_of line.entry))) }
-    ensures parts { IfOk result (λ v. Inside line.entry → AllByRecursion (PartOf (sheet_of line.entry)) v.items) }
+    ensures parts { IfOk result (λ v. AllByRecursion (PartOf (sheet_of line.entry)) v.items) }
     ensures law { IfOk result (λ v. WordsOf (bytes_of line.entry) (map text_of v.items)) }
 {
-    let words = split(heap, line.bytes(), line.place())?;
-    Ok(words)
+    split(heap, line.bytes(), line.place())
 }

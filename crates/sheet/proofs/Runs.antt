@@ -43,19 +43,19 @@ pub record SoFar (whole left : List Raw) (n : ℕ) (carried : ℤ) (text : Text)
   pub accepted : Accepted (closings_in done) carried
   pub onward : (os : List Outcome) (last : ℤ) → Answers n carried left os last → Answers 1 (pos 0) whole (done ++ os) last
 
-pub so_far_start : (whole : List Raw) (n : ℕ) (carried : ℤ) (text : Text) → n ≡ 1 → carried ≡ pos 0 → text ≡ [] → SoFar whole whole n carried text
-so_far_start whole n carried text e z t =
+pub so_far_start : (whole left : List Raw) (n : ℕ) (carried : ℤ) (text : Text) → n ≡ 1 → carried ≡ pos 0 → text ≡ [] → left ≡ whole → SoFar whole left n carried text
+so_far_start whole left n carried text e z t is =
     record {
       done = [];
       count = omega (arith, e);
       shown = t;
       accepted = subst (Accepted []) (sym z) none;
-      onward = λ os last a. subst (λ c. Answers 1 c whole os last) z (subst (λ k. Answers k carried whole os last) e a);
+      onward = λ os last a. subst (λ ls. Answers 1 (pos 0) ls os last) is (subst (λ c. Answers 1 c left os last) z (subst (λ k. Answers k carried left os last) e a));
     }
 
-pub so_far_more : (whole : List Raw) (l : Raw) (ls : List Raw) (n : ℕ) (carried then : ℤ) (text new : Text)
+more_done : (whole : List Raw) (l : Raw) (ls : List Raw) (n : ℕ) (carried then : ℤ) (text new : Text)
     → SoFar whole (l ∷ ls) n carried text → Turns n carried l text new then → SoFar whole ls (n + 1) then new
-so_far_more whole l ls n carried then text new s t =
+more_done whole l ls n carried then text new s t =
     let o = t.outcome in
     let done = s.done in
     record {
@@ -72,12 +72,19 @@ so_far_more whole l ls n carried then text new s t =
           (s.onward (o ∷ os) last (more t.comes (subst (λ c. Answers (n + 1) c ls os last) t.left a)));
     }
 
-pub so_far_end : (whole : List Raw) (n : ℕ) (carried : ℤ) (text : Text) → SoFar whole [] n carried text → Printed whole text
-so_far_end whole n carried text s =
+-- the first of the lines that are left has had its turn
+pub so_far_more : (whole left : List Raw) (l : Raw) (ls : List Raw) (k n m : ℕ) (carried then : ℤ) (text new : Text)
+    → SoFar whole left k carried text → left ≡ l ∷ ls → n ≡ k → m ≡ n + 1 → Turns n carried l text new then → SoFar whole ls m then new
+so_far_more whole left l ls k n m carried then text new s is at on t =
+    subst (λ j. SoFar whole ls j then new) (sym on)
+    (more_done whole l ls n carried then text new (subst (λ j. SoFar whole (l ∷ ls) j carried text) (sym at) (subst (λ x. SoFar whole x k carried text) is s)) t)
+
+pub so_far_end : (whole left : List Raw) (n : ℕ) (carried : ℤ) (text : Text) → SoFar whole left n carried text → left ≡ [] → Printed whole text
+so_far_end whole left n carried text s is =
     record {
       outcomes = s.done;
       carried = carried;
-      answered = subst (λ os. Answers 1 (pos 0) whole os carried) (append-nil s.done) (s.onward [] carried meaning.none);
+      answered = subst (λ os. Answers 1 (pos 0) whole os carried) (append-nil s.done) (s.onward [] carried (subst (λ ls. Answers n carried ls [] carried) (sym is) meaning.none));
       shown = s.shown;
       accepted = s.accepted;
       balanced = balance (closings_in s.done) carried s.accepted;

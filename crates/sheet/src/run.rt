@@ -8,22 +8,14 @@ ghost use Rattle.lines.specs.Lines.{lines};
 ghost use Rattle.lines.specs.Limits.{longest_sheet};
 ghost use Rattle.sheet.specs.Meaning.{Printed, Output};
 
-use crate::print::{closed_line, refused_line};
+use crate::print::{Closed, Refused, refused_line};
 use lines::faults::SheetFault;
-use lines::raw::{RawLine, line_at};
+use lines::raw::{Lines, RawLine};
 use lines::reading::{check_sheet, read_close};
 use revenue::carried::Carried;
 use revenue::figures::Closing;
 use revenue::period::close;
 use std::alloc::{AllocError, Global};
-
-// The amount that is carried on after a closing.
-fn carried_on(closing: Closing) -> Carried
-    requires { unsigned_abs closing.rest.0 ≤ most_carried }
-    ensures { result.amount ≡ closing.rest }
-{
-    Carried::new(closing.rest).unwrap()
-}
 
 // What line `n` comes back with.
 fn close_line(
@@ -36,8 +28,7 @@ fn close_line(
     ensures within { IfOk result (λ c. unsigned_abs c.rest.0 ≤ most_carried) }
 {
     let figures = read_close(heap, line, n)?;
-    let closing = close(figures, carried)?;
-    Ok(closing)
+    Ok(close(figures, carried)?)
 }
 
 // Runs line `n`, puts what it prints after what is printed, and gives what is then carried on.
@@ -52,14 +43,17 @@ fn take_line(
 {
     match close_line(heap, line, n, carried) {
         Ok(closing) => {
-            let text = closed_line(heap, closing)?;
-            out.push_str(text.as_str())?;
-            Ok(carried_on(closing))
+            let closed = Closed(closing);
+            write!(out, "{closed}")?;
+            Ok(Carried::new(closing.rest).unwrap())
         }
         Err(SheetFault::NoMemory) => Err(AllocError),
         Err(fault) => {
-            let text = refused_line(heap, n, fault.number())?;
-            out.push_str(text.as_str())?;
+            let refused = Refused {
+                line: n,
+                number: fault.number(),
+            };
+            write!(out, "{refused}")?;
             Ok(carried)
         }
     }
@@ -72,12 +66,8 @@ fn run_lines(heap: Global, sheet: &[u8]) -> Result<String, AllocError>
 {
     let mut out = String::new(heap);
     let mut carried = Carried::nothing();
-    let mut at = 0;
-    let mut n = 1;
-    while let Some(line) = line_at(sheet, at) {
+    for (n, line) in (1..).zip(Lines::new(sheet)) {
         carried = take_line(heap, line, n, carried, &mut out)?;
-        at = line.next();
-        n += 1;
     }
     Ok(out)
 }

@@ -1,18 +1,43 @@
-use Rattle.std.proofs.Common.{◌+◌, ◌++◌, map, take, drop, vec_items, ap, ◌∙◌, arith}
-use Rattle.std.proofs.lemmas.List.{map_push, take_rest}
+use Rattle.std.proofs.Common.{◌+◌, ◌++◌, [], ◌∷◌, map, eqb, vec_items, sym, ap, ◌∙◌, arith, rules, tests}
+use Rattle.std.proofs.lemmas.Iterator.Consumers.{YieldsList-at, YieldsList-end}
+use Rattle.std.proofs.lemmas.Iterator.Splits.{YieldsList-from_slice_split}
+use Rattle.std.proofs.lemmas.List.{map_push}
 use Rattle.lines.specs.Seen.{seen}
-use Rattle.lines.specs.Words.{placed, words}
-use Rattle.lines.proofs.Splits.{one_word, last_word}
+use Rattle.lines.specs.Words.{placed}
+use Rattle.lines.proofs.Splits.{span, span_push, within, placed_push}
 use Rattle.lines.proofs.words.split.Goals as goal
 
-pub loop-out-preserved : goal.loop-out-preserved
-loop-out-preserved c = (
-  omega arith,
-  ap (λ l. l ++ placed (c.args.at + (c.loop-out.i + (c.find-n.result + 1))) (words (drop (c.loop-out.i + (c.find-n.result + 1)) c.args.line.now))) (ap (map seen) c.in_ok-push.ensures.items ∙ map_push seen _ _)
-      ∙ one_word c.args.at c.loop-out.i c.find-n.result c.args.line.now _ _ (map seen (vec_items c.loop-out.out)) _ (take_rest c.args.line.now c.loop-out.i) c.find-n.ensures.value (ap (λ k. take k (drop c.loop-out.i c.args.line.now)) (omega arith)) c.if-i-n.false c.loop-out.invariant.1,
-)
+pub overflow_add-at : goal.overflow_add-at
+overflow_add-at c =
+    let short = within c.args.line.now
+    (YieldsList-at c.into_iter-text-iterator.ensures.into_iter_gives
+    (YieldsList-from_slice_split _ (λ b. eqb b 32) c.args.line.now c.split-text-items.ensures.rest c.split-text-items.ensures.done c.split-text-items.ensures.closure (λ x r q k. search (rules, tests))))
+    c.loop-text.yielded _ c.loop-text.yielded_by _ _ c.in-Some.text c.in-Some.is c.next.ensures.steps c.loop-text.i c.loop-text.invariant.3 in
+    omega (arith, short, c.requires)
 
-pub returns-then-i-n : goal.returns-then-i-n
-returns-then-i-n c =
-    (ap (map seen) c.in_ok-push.ensures.items ∙ map_push seen _ _)
-    ∙ last_word c.args.at c.loop-out.i c.find-n.result c.args.line.now _ _ (map seen (vec_items c.loop-out.out)) _ (take_rest c.args.line.now c.loop-out.i) c.find-n.ensures.value (ap (λ k. take k (drop c.loop-out.i c.args.line.now)) (omega arith)) c.loop-out.invariant.0 c.if-i-n.true c.loop-out.invariant.1
+pub overflow_add-i-in-loop-text : goal.overflow_add-i-in-loop-text
+overflow_add-i-in-loop-text c =
+    let short = within c.args.line.now
+    (YieldsList-at c.into_iter-text-iterator.ensures.into_iter_gives
+    (YieldsList-from_slice_split _ (λ b. eqb b 32) c.args.line.now c.split-text-items.ensures.rest c.split-text-items.ensures.done c.split-text-items.ensures.closure (λ x r q k. search (rules, tests))))
+    c.loop-text.yielded _ c.loop-text.yielded_by _ _ c.in-Some.text c.in-Some.is c.next.ensures.steps c.loop-text.i c.loop-text.invariant.3 in
+    omega (arith, short, c.requires)
+
+pub loop-text-preserved : goal.loop-text-preserved
+loop-text-preserved c =
+    let (_, _, out, i) = c.loop-text.invariant in
+    let more = map_push (λ t. t.now) c.loop-text.yielded c.in-Some.text in (
+      search rules,
+      search rules,
+      ap (map seen) c.in_ok-push.ensures.items ∙ map_push seen _ _ ∙ ap (λ l. l ++ (c.args.at + c.loop-text.i, c.in-Some.text.now) ∷ []) out
+          ∙ ap (λ k. placed c.args.at (map (λ t. t.now) c.loop-text.yielded) ++ (c.args.at + k, c.in-Some.text.now) ∷ []) i ∙ sym (placed_push c.args.at _ _) ∙ ap (placed c.args.at) (sym more),
+      omega (arith, i, ap span more, span_push (map (λ t. t.now) c.loop-text.yielded) c.in-Some.text.now),
+    )
+
+pub returns : goal.returns
+returns c =
+    let end = YieldsList-end
+    (YieldsList-at c.into_iter-text-iterator.ensures.into_iter_gives
+    (YieldsList-from_slice_split _ (λ b. eqb b 32) c.args.line.now c.split-text-items.ensures.rest c.split-text-items.ensures.done c.split-text-items.ensures.closure (λ x r q k. search (rules, tests))))
+    c.loop-text.yielded _ c.loop-text.yielded_by _ _ c.in-None.is c.next.ensures.steps in
+    c.loop-text.invariant.2 ∙ ap (placed c.args.at) end.0

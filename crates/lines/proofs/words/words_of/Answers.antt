@@ -1,25 +1,18 @@
-use Rattle.std.proofs.Common.{length, vec_items, sym, refl, ap, subst, arith}
-use Rattle.lines.specs.Words.{words, WordsOf}
-use Rattle.lines.specs.Seen.{bytes_of, sheet_of}
-use Rattle.lines.proofs.Cuts.{part_short}
+use Rattle.std.proofs.lemmas.Result.{IfOk-weaker}
+use Rattle.std.proofs.Common.{◌≡◌, map, IfOk, length, vec_items, sym, refl, ap, subst, arith}
+use Rattle.lines.specs.Words.{words, placed, WordsOf}
+use Rattle.lines.specs.Seen.{bytes_of, sheet_of, seen}
 use Rattle.lines.proofs.Splits.{words_of}
 use Rattle.lines.proofs.Places.{moved, parts, texts}
 use Rattle.lines.proofs.words.words_of.Goals as goal
 
-pub split-requires : goal.split-requires
-split-requires c =
-    let l = c.args.line in
-    let long = ap length c.bytes.ensures in
-    let short = part_short (sheet_of l) l.at l.len in
-    omega arith
-
 pub returns : goal.returns
 returns c =
     let l = c.args.line in
-    let v = vec_items c.in_ok-words.words in
-    let is = moved v _ _ l.at (bytes_of l) c.place.ensures c.bytes.ensures c.in_ok-words.ensures in
+    let line = bytes_of l in
+    let is : IfOk c.split.result (λ v. map seen (vec_items v) ≡ placed l.at (words line)) = IfOk-weaker c.split.result _ _ (λ v e. moved (vec_items v) _ _ l.at line c.place.ensures c.bytes.ensures e) c.split.ensures in
     record {
       seen = is;
-      parts = λ inside. parts (sheet_of l) l.at l.len (bytes_of l) v refl inside is;
-      law = subst (WordsOf (bytes_of l)) (sym (texts l.at v (words (bytes_of l)) is)) (words_of (bytes_of l));
+      parts = IfOk-weaker c.split.result _ _ (λ v e. parts (sheet_of l) l.at l.len line (vec_items v) refl l.inside e) is;
+      law = IfOk-weaker c.split.result _ _ (λ v e. subst (WordsOf line) (sym (texts l.at (vec_items v) (words line) e)) (words_of line)) is;
     }

@@ -1,29 +1,27 @@
-use Rattle.std.proofs.Common.{◌≡◌, ◌∷◌, length, drop, string_bytes, sym, refl, ap, ◌∙◌, subst, arith}
+use Rattle.std.proofs.Common.{◌≡◌, ◌+◌, [], length, ap, ⊎_elim, arith, rules}
 use Rattle.lines.specs.Lines.{lines}
-use Rattle.lines.specs.Seen.{raw_of}
-use Rattle.sheet.proofs.Runs.{SoFar, so_far_start, so_far_more, so_far_end}
+use Rattle.lines.specs.Seen.{lines_left}
+use Rattle.lines.proofs.Sheets.{lines_few}
+use Rattle.sheet.proofs.Runs.{so_far_start, so_far_more, so_far_end}
 use Rattle.sheet.proofs.run.run_lines.Goals as goal
 
-pub loop-line-init : goal.loop-line-init
-loop-line-init c = (omega arith, omega arith, so_far_start _ _ _ _ refl c.nothing-carried.ensures c.new-out.ensures.bytes)
+pub loop-n-init : goal.loop-n-init
+loop-n-init c =
+    let left : lines_left c.into_iter-n-iterator.result.b ≡ lines c.args.sheet.now = search rules in
+    let first : c.into_iter-n-iterator.result.a.start ≡ 1 = search rules in
+    (omega (arith, first, ap length left), so_far_start _ _ _ _ _ first c.nothing-carried.ensures c.new-out.ensures.bytes left)
 
-pub loop-line-preserved : goal.loop-line-preserved
-loop-line-preserved c =
-    let sheet = c.args.sheet.now in
-    let i = c.loop-line.invariant in
-    let b = c.in-Some.ensures.found in
-    let next = c.next-at.ensures.value in
-    let e : lines (drop c.loop-line.at sheet) ≡ raw_of c.in-Some.line ∷ lines (drop c.next-at.result sheet) =
-    b.first ∙ ap (λ k. raw_of c.in-Some.line ∷ lines (drop k sheet)) (sym next) in (
-      omega (arith, i.0, b.onward, next),
-      omega (arith, c.next-at.ensures.bound, ap length b.same),
-      so_far_more (lines sheet) (raw_of c.in-Some.line) _ c.loop-line.n c.loop-line.carried.amount.0 _ (string_bytes c.loop-line.out) _
-          (subst (λ ls. SoFar (lines sheet) ls c.loop-line.n c.loop-line.carried.amount.0 (string_bytes c.loop-line.out)) e i.2)
-          c.in_ok-carried.ensures,
-    )
+pub loop-n-preserved : goal.loop-n-preserved
+loop-n-preserved c =
+    let i = c.loop-n.invariant in
+    let turn = c.in-Some.ensures.steps in
+    let next : c.next.new.self.a.start ≡ c.in-Some.n + 1 = search rules in
+    (omega (arith, i.0, next, turn.0.0, ap length turn.1), so_far_more _ _ _ _ _ _ _ _ _ _ _ i.1 turn.1 turn.0.0 next c.in_ok-carried.ensures)
 
+-- the numbers do not run out before the lines
 pub returns : goal.returns
 returns c =
-    let sheet = c.args.sheet.now in
-    so_far_end (lines sheet) c.loop-line.n c.loop-line.carried.amount.0 _
-    (subst (λ ls. SoFar (lines sheet) ls c.loop-line.n c.loop-line.carried.amount.0 (string_bytes c.loop-line.out)) c.in_default.ensures.found c.loop-line.invariant.2)
+    let i = c.loop-n.invariant in
+    let ended : lines_left c.loop-n.n-iterator.b ≡ [] =
+    ⊎_elim (λ out. absurd (omega (arith, i.0, out.1.0, lines_few c.args.sheet.now, c.requires))) (λ none. none.1.0) c.in-None.ensures.steps in
+    so_far_end _ _ _ _ _ i.1 ended
