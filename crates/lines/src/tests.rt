@@ -7,7 +7,7 @@ use revenue::figures::Figures;
 use revenue::units::{HundredThousandths, HundredthsOfPercent, MegawattHours, ParasPerKwh};
 use std::alloc::Global;
 use std::test::Fail;
-use terms::faults::{BookFault, ClosingFigure};
+use terms::faults::{BookFault, ClosingFigure, Fault};
 use terms::measures::Dinars;
 use terms::refusals::{Part, Refusal};
 

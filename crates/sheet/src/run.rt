@@ -16,6 +16,7 @@ use revenue::carried::Carried;
 use revenue::figures::Closing;
 use revenue::period::close;
 use std::alloc::{AllocError, Global};
+use terms::faults::Fault;
 
 // What line `n` comes back with.
 fn close_line(

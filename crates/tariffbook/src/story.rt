@@ -11,7 +11,7 @@ use revenue::units::{HundredThousandths, HundredthsOfPercent, MegawattHours, Par
 use rules::calls::{Answer, Call};
 use std::alloc::Global;
 use std::io;
-use terms::faults::{BookFault, SourceFault};
+use terms::faults::{BookFault, Fault, SourceFault};
 use terms::measures::{Dinars, Km, Lots};
 use terms::points::{Kind, Side};
 
