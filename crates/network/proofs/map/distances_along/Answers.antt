@@ -1,7 +1,7 @@
 use Rattle.std.proofs.Common.{ℕ, sym, subst, arith}
 use Rattle.network.specs.Grid.{GridLaws}
 use Rattle.network.proofs.Lays.{least_laws}
-use Rattle.network.proofs.map.methods.distances_along.Goals as goal
+use Rattle.network.proofs.map.distances_along.Goals as goal
 
 pub invariant_of-result : goal.invariant_of-result
 invariant_of-result c =

@@ -1,6 +1,6 @@
 use Rattle.network.specs.Link.{via}
 use Rattle.network.specs.Links.{capped_parts}
-use Rattle.network.proofs.link.methods.LinkSource.distance.Goals as goal
+use Rattle.network.proofs.link.LinkSource.distance.Goals as goal
 
 pub returns : goal.returns
 returns g c =
