@@ -5,9 +5,8 @@ use Rattle.std.proofs.lemmas.Bool.{cond_both, eqb-true, eqb-false}
 use Rattle.terms.specs.declared.measures.Lots.{Lots}
 use Rattle.terms.specs.Rounding.{nearest}
 use Rattle.terms.proofs.Halves.{nearest_within}
-use Rattle.pricing.specs.declared.basis.Basis.{Basis}
 use Rattle.pricing.specs.declared.elements.Elements.{Elements}
-use Rattle.pricing.specs.Shares.{weight, others, HasShares, first_storage, storage_share, left_over, main_share, other_share}
+use Rattle.pricing.specs.Shares.{Basis, weight, others, HasShares, first_storage, storage_share, left_over, main_share, other_share}
 use Rattle.pricing.specs.Tariffs.{steps, rsd, tariff_of, side_of, paid, planned, takings, Weighed, Collects}
 use Rattle.pricing.proofs.Parts.{storage_le, main_le}
 

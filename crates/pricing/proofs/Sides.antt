@@ -1,10 +1,9 @@
 -- What the two steps of a side's split give is what its shares are defined to be, and keeps what is promised of them.
 use Rattle.std.proofs.Common.{◌≡◌, ℕ, ◌+◌, ◌-◌, ◌≤◌, ap, ◌∙◌}
 use Rattle.terms.specs.declared.measures.Lots.{Lots}
-use Rattle.pricing.specs.declared.basis.Basis.{Basis}
 use Rattle.pricing.specs.declared.elements.Elements.{Elements}
 use Rattle.pricing.specs.Limits.{whole_relief}
-use Rattle.pricing.specs.Shares.{HasShares, first_storage, released, left_over, main_part, main_share, other_share}
+use Rattle.pricing.specs.Shares.{Basis, HasShares, first_storage, released, left_over, main_part, main_share, other_share}
 use Rattle.pricing.specs.Tariffs.{side_of, SidePromised}
 use Rattle.pricing.proofs.Parts.{left_is}
 use Rattle.pricing.proofs.Nearness.{near_main, near_other, near_storage}

@@ -4,11 +4,10 @@ use Rattle.terms.specs.declared.faults.BookFault.TheVariants.{NoEntryShares, NoE
 use Rattle.terms.specs.declared.measures.Lots.{Lots}
 use Rattle.terms.specs.Faults.{book_refusal}
 use Rattle.terms.specs.Refusals.{Rule, rule}
-use Rattle.pricing.specs.declared.basis.Basis.{Basis}
 use Rattle.pricing.specs.declared.elements.Elements.{Elements}
 use Rattle.pricing.specs.declared.figures.TariffFigures.{TariffFigures}
 use Rattle.pricing.specs.declared.plan.SidePlan.{SidePlan}
-use Rattle.pricing.specs.Shares.{entries_half, exits_half, basis, others}
+use Rattle.pricing.specs.Shares.{Basis, entries_half, exits_half, basis, others}
 use Rattle.pricing.specs.Tariffs.{side_of, shared, planned, takings, Weighed, Collects, SidePromised}
 
 -- the allowed revenue, and of each side what its shares are worked from and the lots that bear them

@@ -3,12 +3,11 @@ use Rattle.std.specs.Prelude.{◌≡◌, ℕ, ◌+◌, ◌*◌, ◌≤◌, max, 
 use Rattle.terms.specs.declared.measures.Lots.{Lots}
 use Rattle.terms.specs.declared.measures.PriceSteps.{PriceSteps}
 use Rattle.terms.specs.Rounding.{nearest}
-use Rattle.pricing.specs.declared.basis.Basis.{Basis}
 use Rattle.pricing.specs.declared.elements.Elements.{Elements}
 use Rattle.pricing.specs.declared.figures.ElementFigures.{ElementFigures}
 use Rattle.pricing.specs.Limits.{rsd_per_thousand}
 use Rattle.pricing.specs.Fractions.{Near}
-use Rattle.pricing.specs.Shares.{dinars, main_share, other_share, storage_share}
+use Rattle.pricing.specs.Shares.{Basis, dinars, main_share, other_share, storage_share}
 use Rattle.pricing.specs.Exact.{exact_storage, exact_other}
 use Rattle.pricing.specs.Methodology.{Methodical}
 

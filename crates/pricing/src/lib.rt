@@ -14,3 +14,4 @@ pub mod sharing;
 pub mod tariffs;
 #[cfg(test)]
 mod tests;
+mod year;

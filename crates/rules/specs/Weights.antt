@@ -6,10 +6,9 @@ use Rattle.terms.specs.declared.points.Kind.{Kind}
 use Rattle.terms.specs.declared.points.Kind.TheVariants.{Transmission, Production, Storage, Local, Interconnector}
 use Rattle.terms.specs.declared.measures.Lots.{Lots}
 use Rattle.network.specs.Net.{Net}
-use Rattle.pricing.specs.declared.basis.Basis.{Basis}
 use Rattle.pricing.specs.declared.elements.Elements.{Elements}
 use Rattle.pricing.specs.Drafts.{Drawing}
-use Rattle.pricing.specs.Shares.{entries_half, exits_half, basis}
+use Rattle.pricing.specs.Shares.{Basis, entries_half, exits_half, basis}
 use Rattle.rules.specs.Points.{Point, Plain, opposite, on_side}
 
 -- a side's two elements beside storage: the main one is T or L, the other P or I
