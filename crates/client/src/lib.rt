@@ -8,11 +8,13 @@ ghost use Rattle.terms.specs.Refusals.{Ruled};
 ghost use Rattle.pricing.specs.Limits.{year_days};
 ghost use Rattle.pricing.specs.Lines.{decision_text};
 ghost use Rattle.pricing.specs.Prices.{tariff_in, price_rules, price_in};
+ghost use Rattle.pricing.specs.Shares.{basis, shares_of};
 ghost use Rattle.pricing.specs.Tariffs.{steps, steps_of};
 
 use pricing::amount::Amount;
 use pricing::basis::Weights;
 use pricing::decision::Draft;
+use pricing::elements::Elements;
 use pricing::products::Product;
 use pricing::release::{hand_on, storage_share};
 use pricing::relief::Relief;
@@ -22,20 +24,18 @@ use terms::faults::BookFault;
 use terms::measures::{Dinars, PriceSteps};
 use terms::points::{Kind, Side};
 
-// The shares of a side's main element, its other one and storage.
-pub fn shares(
-    amount: Amount,
-    weights: Weights,
-    relief: Relief,
-) -> Option<(Dinars<u64>, Dinars<u64>, Dinars<u64>)>
-    ensures { MatchOption result (weights.main + weights.other ≡ 0) (λ s. s.0.0 + s.1.0 + s.2.0 ≡ amount.dinars.0) }
+// The shares of a side's elements.
+pub fn shares(amount: Amount, weights: Weights, relief: Relief) -> Option<Elements<Dinars<u64>>>
+    ensures { MatchOption result (weights.main + weights.other ≡ 0) (λ s. (s ≡ shares_of (basis amount.dinars.0 weights relief.parts)) × (s.main.0 + s.other.0 + s.storage.0 ≡ amount.dinars.0)) }
 {
-    let Some(side) = Sharing::new(amount, weights, relief) else {
-        return None;
-    };
+    let side = Sharing::new(amount, weights, relief)?;
     let (storage, release) = storage_share(side);
     let (main, other) = hand_on(release);
-    Some((main, other, storage))
+    Some(Elements {
+        main,
+        other,
+        storage,
+    })
 }
 
 // What a draft would charge for a product, once it is approved.

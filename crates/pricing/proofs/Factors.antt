@@ -1,9 +1,8 @@
 -- The exact shares are the amount times the final weighting factors.
 use Rattle.std.proofs.Common.{◌≡◌, ℕ, ◌+◌, ◌-◌, ◌*◌, ◌<◌, ◌≤◌, refl, ap, mul-le-mul, mul-pos, one-mul, arith}
-use Rattle.pricing.specs.declared.basis.Basis.{Basis}
 use Rattle.pricing.specs.Limits.{whole_relief}
 use Rattle.pricing.specs.Fractions.{whole, times, Same}
-use Rattle.pricing.specs.Shares.{weight, others, HasShares}
+use Rattle.pricing.specs.Shares.{Basis, weight, others, HasShares}
 use Rattle.pricing.specs.Exact.{exact_storage, exact_other}
 use Rattle.pricing.specs.Methodology.{Methodical, final_other}
 use Rattle.pricing.proofs.Nearness.{scale_pos}

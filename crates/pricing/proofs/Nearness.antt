@@ -1,10 +1,9 @@
 -- The shares of a side lie near the exact ones.
 use Rattle.std.proofs.Common.{◌≡◌, ℕ, ◌+◌, ◌-◌, ◌*◌, ◌<◌, ◌≤◌, ap, mul-le-mul_right, mul-le-mul, mul-le-mul_left, mul-lt-mul_of_pos_right, div-mul-le_self, arith}
 use native.Mathlib.Nat.{lt-div-mul-add}
-use Rattle.pricing.specs.declared.basis.Basis.{Basis}
 use Rattle.pricing.specs.Limits.{whole_relief}
 use Rattle.pricing.specs.Fractions.{fraction, Near}
-use Rattle.pricing.specs.Shares.{weight, others, HasShares, first_storage, released, storage_share, left_over, main_share, other_share}
+use Rattle.pricing.specs.Shares.{Basis, weight, others, HasShares, first_storage, released, storage_share, left_over, main_share, other_share}
 use Rattle.pricing.specs.Exact.{exact_storage, exact_other}
 use Rattle.pricing.proofs.Parts.{released_le, storage_le, main_le}
 

@@ -1,9 +1,8 @@
 -- Laws of parts that are rounded down.
 use Rattle.std.proofs.Common.{◌≡◌, ℕ, ◌+◌, ◌-◌, ◌*◌, ◌/◌, ◌≤◌, mul-le-mul_left, arith}
 use native.Mathlib.Nat.{div-le_of_le-mul}
-use Rattle.pricing.specs.declared.basis.Basis.{Basis}
 use Rattle.pricing.specs.Limits.{whole_relief}
-use Rattle.pricing.specs.Shares.{weight, first_storage, released, storage_share, left_over, main_share}
+use Rattle.pricing.specs.Shares.{Basis, weight, first_storage, released, storage_share, left_over, main_share}
 
 -- a part of a is at most a
 pub part_le : (a w all : ℕ) → w ≤ all → a * w / all ≤ a

@@ -1,9 +1,8 @@
 -- The exact shares of a side, before any rounding.
 use Rattle.std.specs.Prelude.{ℕ, ◌-◌, ◌*◌}
-use Rattle.pricing.specs.declared.basis.Basis.{Basis}
 use Rattle.pricing.specs.Limits.{whole_relief}
 use Rattle.pricing.specs.Fractions.{Fraction, fraction}
-use Rattle.pricing.specs.Shares.{weight, others}
+use Rattle.pricing.specs.Shares.{Basis, weight, others}
 
 -- amount × (10,000 - relief) × storage's weight / (10,000 × the side's weight)
 abbrev pub exact_storage : Basis → Fraction

@@ -1,5 +1,6 @@
 pub mod Limits
 pub mod Shares
+pub mod Sides
 pub mod Fractions
 pub mod Exact
 pub mod Methodology

@@ -1,9 +1,8 @@
 -- The exact shares in the words of the methodology: weighting factors, the storage discount, final weighting factors.
 use Rattle.std.specs.Prelude.{ℕ}
-use Rattle.pricing.specs.declared.basis.Basis.{Basis}
 use Rattle.pricing.specs.Limits.{whole_relief}
 use Rattle.pricing.specs.Fractions.{Fraction, fraction, whole, plus, less, times, divided, Same}
-use Rattle.pricing.specs.Shares.{weight}
+use Rattle.pricing.specs.Shares.{Basis, weight}
 use Rattle.pricing.specs.Exact.{exact_storage, exact_other}
 
 -- An element's weighting factor is its weight, capacity times weighted average distance, over the sum of the side's.

@@ -1,8 +1,7 @@
 -- How the allowed revenue is halved, and how a side's amount is shared out among its three elements.
 use Rattle.std.specs.Prelude.{ℕ, ◌+◌, ◌-◌, ◌*◌, ◌/◌, ◌<◌}
 use Rattle.terms.specs.declared.measures.Dinars.{Dinars}
-use Rattle.pricing.specs.declared.basis.Weights.{Weights}
-use Rattle.pricing.specs.declared.basis.Basis.{Basis}
+use Rattle.pricing.specs.declared.elements.Elements.{Elements}
 use Rattle.pricing.specs.Limits.{whole_relief}
 
 -- money, in thousands of RSD
@@ -17,8 +16,16 @@ entries_half allowed = allowed / 2
 abbrev pub exits_half : ℕ → ℕ
 exits_half allowed = allowed - entries_half allowed
 
+-- what the shares of a side are worked from: its amount, the weights of its three elements and its storage relief in ten-thousandths
+pub record Basis : Type 0 where
+  pub amount : Dinars ℕ
+  pub main : ℕ
+  pub other : ℕ
+  pub storage : ℕ
+  pub relief : ℕ
+
 -- what a side with this amount, these weights and this relief is shared out from
-abbrev pub basis : ℕ → Weights → ℕ → Basis
+abbrev pub basis : ℕ → Elements ℕ → ℕ → Basis
 basis amount w relief =
     record { amount = dinars amount; main = w.main; other = w.other; storage = w.storage; relief = relief }
 
@@ -61,3 +68,7 @@ main_share b = main_part (left_over b) b.main b.other
 -- the share of the other element: the rest
 abbrev pub other_share : Basis → ℕ
 other_share b = left_over b - main_share b
+
+-- all three
+abbrev pub shares_of : Basis → Elements (Dinars ℕ)
+shares_of b = record { main = dinars (main_share b); other = dinars (other_share b); storage = dinars (storage_share b) }

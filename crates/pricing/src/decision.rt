@@ -8,8 +8,6 @@ ghost use Rattle.pricing.specs.Drafts.{drawing_of, draw_rules, figures_of, Promi
 use crate::amount::Amount;
 use crate::figures::TariffFigures;
 use crate::plan::SidePlan;
-use crate::sharing::Sharing;
-use crate::tariffs::side_figures;
 use terms::faults::BookFault;
 
 mod lines;
@@ -23,12 +21,10 @@ pub struct Draft {
     ghost exits_bounded: { highest figures.exits ≤ most_tariff },
 }
 
-// An approved decision: short prices are taken from it, and printing it uses it up.
+// An approved decision: short prices are taken from the draft that it was, and printing it uses it up.
 #[derive(Drop)]
 pub struct Approved {
-    figures: TariffFigures,
-    ghost entries_bounded: { highest figures.entries ≤ most_tariff },
-    ghost exits_bounded: { highest figures.exits ≤ most_tariff },
+    draft: Draft,
 }
 
 // A draft of what the allowed revenue comes to on both sides.
@@ -37,15 +33,11 @@ pub fn draw(allowed: Amount, entries: SidePlan, exits: SidePlan) -> Result<Draft
     ensures promised { IfOk result (λ d. Promised (drawing_of allowed.dinars.0 entries exits) d.figures) }
 {
     let (of_entries, of_exits) = allowed.halves();
-    let Some(entry_side) = Sharing::new(of_entries, entries.weights, entries.relief) else {
-        return Err(BookFault::NoEntryShares);
-    };
-    let Some(exit_side) = Sharing::new(of_exits, exits.weights, exits.relief) else {
-        return Err(BookFault::NoExitShares);
-    };
+    let entry_figures = entries.figures(of_entries).ok_or(BookFault::NoEntryShares)?;
+    let exit_figures = exits.figures(of_exits).ok_or(BookFault::NoExitShares)?;
     let figures = TariffFigures {
-        entries: side_figures(entry_side, entries.lots),
-        exits: side_figures(exit_side, exits.lots),
+        entries: entry_figures,
+        exits: exit_figures,
     };
     Ok(Draft { figures })
 }
@@ -60,10 +52,8 @@ impl Draft {
 
     // Approves the draft, which uses it up.
     pub fn approve(self) -> Approved
-        ensures { result.figures ≡ self.figures }
+        ensures { result.draft ≡ self }
     {
-        Approved {
-            figures: self.figures,
-        }
+        Approved { draft: self }
     }
 }

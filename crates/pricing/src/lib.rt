@@ -4,6 +4,7 @@
 pub mod amount;
 pub mod basis;
 pub mod decision;
+pub mod elements;
 pub mod figures;
 pub mod plan;
 pub mod products;
@@ -13,3 +14,4 @@ pub mod sharing;
 pub mod tariffs;
 #[cfg(test)]
 mod tests;
+mod year;

@@ -1,8 +1,12 @@
 // Capacity products: terms with their letters, numbers and multipliers, and how long a product runs.
 ghost use Rattle.std.specs.Prelude.{◌≡◌, ◌<◌, ◌≤◌, MatchBool};
+ghost use Rattle.std.specs.Option.{ok_or};
+ghost use Rattle.std.specs.Result.{result_ok};
 ghost use Rattle.terms.specs.Letters.{Spells};
 ghost use Rattle.pricing.specs.Limits.{last_quarter, last_month, longest_year};
 ghost use Rattle.pricing.specs.Products.{term_letter, term_of, Exists, NoSuch, InRange, OutOfRange, month_days, quarter_days, runs_in, year_in};
+
+use crate::year::Year;
 
 // The last quarter of a gas year, counted from 0.
 const LAST_QUARTER: u32 = 3;
@@ -21,7 +25,7 @@ const MOST_BY_MONTH: u32 = 150;
 // The largest multiplier of a day and of what runs within a day.
 const MOST_BY_DAY: u32 = 300;
 
-const MONTHS_PER_QUARTER: u32 = 3;
+const MONTHS_PER_QUARTER: usize = 3;
 
 // The days of the months of a gas year, from October.
 const MONTH_DAYS: [u64; 12] = [31, 30, 31, 31, 28, 31, 30, 31, 30, 31, 31, 30];
@@ -44,11 +48,15 @@ pub struct Product {
     pub number: u32,
 }
 
-impl Term {
-    pub fn letter(self) -> char
-        ensures { result ≡ term_letter self }
-    {
-        match self {
+// A letter that writes no term.
+#[derive(Clone, Copy, PartialEq, Eq, Debug)]
+pub struct UnknownLetter(pub char);
+
+impl From<Term> for char {
+    ghost from_gives = { λ t c. c ≡ term_letter t };
+
+    fn from(term: Term) -> char {
+        match term {
             Term::Year => 'Y',
             Term::Quarter => 'Q',
             Term::Month => 'M',
@@ -56,22 +64,26 @@ impl Term {
             Term::Hours => 'H',
         }
     }
+}
 
-    // The term that a letter writes.
-    pub fn from_letter(c: char) -> Option<Term>
-        ensures value { result ≡ term_of c }
-        ensures spells { Spells term_letter c result }
-    {
+impl TryFrom<char> for Term {
+    type Error = UnknownLetter;
+
+    ghost try_from_gives = { λ c r. (r ≡ ok_or (term_of c) (record { 0 = c })) × Spells term_letter c (result_ok r) };
+
+    fn try_from(c: char) -> Result<Term, UnknownLetter> {
         match c {
-            'Y' => Some(Term::Year),
-            'Q' => Some(Term::Quarter),
-            'M' => Some(Term::Month),
-            'D' => Some(Term::Day),
-            'H' => Some(Term::Hours),
-            _ => None,
+            'Y' => Ok(Term::Year),
+            'Q' => Ok(Term::Quarter),
+            'M' => Ok(Term::Month),
+            'D' => Ok(Term::Day),
+            'H' => Ok(Term::Hours),
+            _ => Err(UnknownLetter(c)),
         }
     }
+}
 
+impl Term {
     // Whether the term takes that multiplier, in hundredths.
     pub(crate) fn takes(self, multiplier: u32) -> bool
         ensures { MatchBool result (InRange self multiplier) (OutOfRange self multiplier) }
@@ -81,17 +93,17 @@ impl Term {
             Term::Quarter | Term::Month => MOST_BY_MONTH,
             Term::Day | Term::Hours => MOST_BY_DAY,
         };
-        MULTIPLIER_ONE <= multiplier && multiplier <= most
+        (MULTIPLIER_ONE..=most).contains(&multiplier)
     }
 
     // The days of a year, or its hours for what runs within a day.
-    pub(crate) fn year_in(self, year: u64) -> u64
-        requires { year ≤ longest_year }
-        ensures { result ≡ year_in year self }
+    pub(crate) fn year_in(self, year: Year) -> u64
+        ensures value { result ≡ year_in year.days self }
+        ensures some { 0 < result }
     {
         match self {
-            Term::Hours => HOURS_PER_DAY as u64 * year,
-            _ => year,
+            Term::Hours => HOURS_PER_DAY as u64 * year.days(),
+            _ => year.days(),
         }
     }
 }
@@ -109,8 +121,8 @@ fn quarter_days(quarter: u32) -> u64
     ensures value { result ≡ quarter_days quarter }
     ensures bound { result ≤ 93 }
 {
-    let first = MONTHS_PER_QUARTER * quarter;
-    month_days(first) + month_days(first + 1) + month_days(first + 2)
+    let first = MONTHS_PER_QUARTER * quarter as usize;
+    MONTH_DAYS[first..first + MONTHS_PER_QUARTER].iter().sum()
 }
 
 impl Product {
@@ -122,19 +134,18 @@ impl Product {
             Term::Year | Term::Day => self.number == 0,
             Term::Quarter => self.number <= LAST_QUARTER,
             Term::Month => self.number <= LAST_MONTH,
-            Term::Hours => 1 <= self.number && self.number <= HOURS_PER_DAY,
+            Term::Hours => (1..=HOURS_PER_DAY).contains(&self.number),
         }
     }
 
-    // How long it runs in a year of so many days: in days, or in hours within a day.
-    pub(crate) fn runs(self, year: u64) -> u64
-        requires exists { Exists self }
-        requires short { year ≤ longest_year }
-        ensures value { result ≡ runs_in year self.term self.number }
+    // How long it runs in such a year: in days, or in hours within a day.
+    pub(crate) fn runs(self, year: Year) -> u64
+        requires { Exists self }
+        ensures value { result ≡ runs_in year.days self.term self.number }
         ensures bound { result ≤ longest_year }
     {
         match self.term {
-            Term::Year => year,
+            Term::Year => year.days(),
             Term::Quarter => quarter_days(self.number),
             Term::Month => month_days(self.number),
             Term::Day => 1,

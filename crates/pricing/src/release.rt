@@ -2,8 +2,8 @@
 ghost use Rattle.std.specs.Prelude.{◌≡◌, ◌+◌, ◌-◌, ◌*◌, ◌/◌, ◌<◌, ◌≤◌};
 ghost use Rattle.pricing.specs.Limits.{most_amount};
 ghost use Rattle.pricing.specs.Shares.{first_storage, released, storage_share, main_part};
+ghost use Rattle.pricing.specs.Sides.{base_of};
 
-use crate::basis::Basis;
 use crate::relief::WHOLE_RELIEF;
 use crate::sharing::Sharing;
 use terms::measures::Dinars;
@@ -31,31 +31,27 @@ fn part(amount: u64, weight: u64, all: u128) -> u64
 
 // What storage keeps, and the release that is owed to the others.
 pub fn storage_share(side: Sharing) -> (Dinars<u64>, Release)
-    ensures kept { result.0.0 ≡ storage_share side.base }
-    ensures before { result.1.before ≡ side.base.amount.0 - first_storage side.base }
-    ensures freed { result.1.freed ≡ released side.base }
-    ensures main { result.1.main ≡ side.base.main }
-    ensures other { result.1.other ≡ side.base.other }
-    ensures whole { result.0.0 + (result.1.before + result.1.freed) ≡ side.base.amount.0 }
+    ensures kept { result.0.0 ≡ storage_share (base_of side) }
+    ensures before { result.1.before ≡ side.amount.dinars.0 - first_storage (base_of side) }
+    ensures freed { result.1.freed ≡ released (base_of side) }
+    ensures main { result.1.main ≡ side.weights.main }
+    ensures other { result.1.other ≡ side.weights.other }
+    ensures whole { result.0.0 + (result.1.before + result.1.freed) ≡ side.amount.dinars.0 }
 {
-    let Sharing { base } = side;
-    let Basis {
-        amount,
-        main,
-        other,
-        storage,
-        relief,
-    } = base;
+    let amount = side.amount.get().0;
+    let main = side.weights.main;
+    let other = side.weights.other;
+    let storage = side.weights.storage;
     let first = part(
-        amount.0,
+        amount,
         storage,
         main as u128 + other as u128 + storage as u128,
     );
-    let freed = part(first, relief as u64, WHOLE_RELIEF as u128);
+    let freed = part(first, side.relief.get() as u64, WHOLE_RELIEF as u128);
     (
         Dinars(first - freed),
         Release {
-            before: amount.0 - first,
+            before: amount - first,
             freed,
             main,
             other,

@@ -1,9 +1,13 @@
 // The shares and tariffs of a side.
-ghost use Rattle.std.specs.Prelude.{◌≡◌, ◌≤◌};
+ghost use Rattle.std.specs.Prelude.{◌≡◌, ◌≤◌, MatchOption};
 ghost use Rattle.pricing.specs.Limits.{most_amount, most_tariff};
-ghost use Rattle.pricing.specs.Tariffs.{tariff_of, element_of, side_of, steps_of, highest, SidePromised};
+ghost use Rattle.pricing.specs.Shares.{basis, others, HasShares};
+ghost use Rattle.pricing.specs.Sides.{base_of};
+ghost use Rattle.pricing.specs.Tariffs.{element_of, side_of, steps_of, highest, SidePromised};
 
+use crate::amount::Amount;
 use crate::figures::{ElementFigures, SideFigures, SideLots};
+use crate::plan::SidePlan;
 use crate::release::{hand_on, storage_share};
 use crate::sharing::Sharing;
 use terms::divisor::Divisor;
@@ -13,34 +17,23 @@ use terms::rounding::to_nearest;
 // Money is in thousands of RSD, and one price step for one lot is 1 RSD.
 const RSD_PER_THOUSAND: u64 = 1_000;
 
-// What a share comes to for each of its lots; none without lots.
-fn tariff(share: Dinars<u64>, lots: Lots) -> Option<PriceSteps>
-    requires { share.0 ≤ most_amount }
-    ensures value { result ≡ tariff_of share.0 lots }
-    ensures bound { steps_of result ≤ most_tariff }
-{
-    match Divisor::new(lots.0 as u64) {
-        Some(by) => Some(PriceSteps(to_nearest(RSD_PER_THOUSAND * share.0, by))),
-        None => None,
-    }
-}
-
-// An element's figures.
+// An element's figures: its tariff is what its share comes to for each of its lots, and there is none without lots.
 fn element(share: Dinars<u64>, lots: Lots) -> ElementFigures
     requires { share.0 ≤ most_amount }
     ensures value { result ≡ element_of share.0 lots }
     ensures bound { steps_of result.tariff ≤ most_tariff }
 {
-    ElementFigures {
-        share,
-        tariff: tariff(share, lots),
-    }
+    let tariff = Divisor::new(lots.0 as u64).map(|by| PriceSteps(to_nearest(
+        RSD_PER_THOUSAND * share.0,
+        by,
+    )));
+    ElementFigures { share, tariff }
 }
 
 // The shares and tariffs of a side: storage first, then the others with what storage released.
-pub(crate) fn side_figures(side: Sharing, lots: SideLots) -> SideFigures
-    ensures value { result ≡ side_of side.base lots }
-    ensures promised { SidePromised side.base lots result }
+fn side_figures(side: Sharing, lots: SideLots) -> SideFigures
+    ensures value { result ≡ side_of (base_of side) lots }
+    ensures promised { SidePromised (base_of side) lots result }
     ensures bound { highest result ≤ most_tariff }
 {
     let (storage, release) = storage_share(side);
@@ -49,5 +42,14 @@ pub(crate) fn side_figures(side: Sharing, lots: SideLots) -> SideFigures
         main: element(main, lots.main),
         other: element(other, lots.other),
         storage: element(storage, lots.storage),
+    }
+}
+
+impl SidePlan {
+    // The side's figures at its half of the allowed revenue, or none where it has no exact shares.
+    pub(crate) fn figures(self, half: Amount) -> Option<SideFigures>
+        ensures { let b = basis half.dinars.0 self.weights self.relief.parts in MatchOption result (others b ≡ 0) (λ f. HasShares b × (f ≡ side_of b self.lots) × SidePromised b self.lots f × (highest f ≤ most_tariff)) }
+    {
+        Sharing::new(half, self.weights, self.relief).map(|side| side_figures(side, self.lots))
     }
 }

@@ -3,7 +3,7 @@ use crate::basis::Weights;
 use crate::decision::{Draft, draw};
 use crate::figures::{ElementFigures, SideFigures, SideLots, TariffFigures};
 use crate::plan::SidePlan;
-use crate::products::{Product, Term};
+use crate::products::{Product, Term, UnknownLetter};
 use crate::relief::Relief;
 use std::test::Fail;
 use terms::faults::BookFault;
@@ -28,13 +28,9 @@ fn plan(weights: (u64, u64, u64), lots: (u32, u32, u32), relief: u32) -> Result<
 }
 
 fn element(share: u64, tariff: Option<u64>) -> ElementFigures {
-    let tariff = match tariff {
-        Some(steps) => Some(PriceSteps(steps)),
-        None => None,
-    };
     ElementFigures {
         share: Dinars(share),
-        tariff,
+        tariff: tariff.map(PriceSteps),
     }
 }
 
@@ -46,10 +42,7 @@ fn drawn(allowed: u64, entries: SidePlan, exits: SidePlan) -> Result<Draft, Fail
 // Why nothing is drawn, if nothing is.
 fn refusal(allowed: u64, entries: SidePlan, exits: SidePlan) -> Result<Option<BookFault>, Fail> {
     let allowed = Amount::new(Dinars(allowed)).ok_or(allowed)?;
-    match draw(allowed, entries, exits) {
-        Ok(_) => Ok(None),
-        Err(fault) => Ok(Some(fault)),
-    }
+    Ok(draw(allowed, entries, exits).err())
 }
 
 fn product(term: Term, number: u32) -> Product {
@@ -263,7 +256,7 @@ fn products_and_multipliers_end_at_their_edges(rt: HostRuntime) {
 
 #[test]
 fn letters_of_terms_go_both_ways(rt: HostRuntime) {
-    assert_eq!(rt; Term::from_letter('H'), Some(Term::Hours));
-    assert_eq!(rt; Term::from_letter('h'), None);
-    assert_eq!(rt; Term::Month.letter(), 'M');
+    assert_eq!(rt; Term::try_from('H'), Ok(Term::Hours));
+    assert_eq!(rt; Term::try_from('h'), Err(UnknownLetter('h')));
+    assert_eq!(rt; char::from(Term::Month), 'M');
 }

@@ -10,34 +10,17 @@ use terms::points::{Kind, Side};
 
 // An element's line.
 #[derive(Drop)]
-struct Line {
-    side: Side,
-    kind: Kind,
-    element: ElementFigures,
-}
-
-impl Line {
-    fn of(side: Side, kind: Kind, element: ElementFigures) -> Line
-        ensures side { result.side ≡ side }
-        ensures kind { result.kind ≡ kind }
-        ensures element { result.element ≡ element }
-    {
-        Line {
-            side,
-            kind,
-            element,
-        }
-    }
-}
+struct Line(Side, Kind, ElementFigures);
 
 impl fmt::Display for Line {
-    ghost output = { λ l. Some (line_text l.side l.kind l.element) };
+    ghost output = { λ l. Some (line_text l.0 l.1 l.2) };
 
     fn fmt<W: fmt::Write>(&self, f: &mut fmt::Formatter<W>) -> fmt::Result {
-        let side = self.side.letter();
-        let kind = self.kind.letter();
-        let share = self.element.share.0;
-        match self.element.tariff {
+        let Line(side, kind, element) = self;
+        let side = side.letter();
+        let kind = kind.letter();
+        let share = element.share.0;
+        match element.tariff {
             Some(tariff) => {
                 let steps = tariff.0;
                 write!(f, "{side} {kind} {share} {steps}\n")
@@ -50,15 +33,15 @@ impl fmt::Display for Line {
 impl Approved {
     // Prints the decision, which uses it up.
     pub fn lines(self, heap: Global) -> Result<String, AllocError>
-        ensures { IfOk result (λ s. string_bytes s ≡ decision_text self.figures) }
+        ensures { IfOk result (λ s. string_bytes s ≡ decision_text self.draft.figures) }
     {
-        let TariffFigures { entries, exits } = self.figures;
-        let transmission = Line::of(Side::Entry, Kind::Transmission, entries.main);
-        let production = Line::of(Side::Entry, Kind::Production, entries.other);
-        let from_storage = Line::of(Side::Entry, Kind::Storage, entries.storage);
-        let local = Line::of(Side::Exit, Kind::Local, exits.main);
-        let interconnector = Line::of(Side::Exit, Kind::Interconnector, exits.other);
-        let to_storage = Line::of(Side::Exit, Kind::Storage, exits.storage);
+        let TariffFigures { entries, exits } = self.draft.figures;
+        let transmission = Line(Side::Entry, Kind::Transmission, entries.main);
+        let production = Line(Side::Entry, Kind::Production, entries.other);
+        let from_storage = Line(Side::Entry, Kind::Storage, entries.storage);
+        let local = Line(Side::Exit, Kind::Local, exits.main);
+        let interconnector = Line(Side::Exit, Kind::Interconnector, exits.other);
+        let to_storage = Line(Side::Exit, Kind::Storage, exits.storage);
         format!(in heap;
             "{transmission}{production}{from_storage}{local}{interconnector}{to_storage}"
         )

@@ -1,35 +1,13 @@
-use Rattle.std.proofs.Common.{ap, ◌∙◌, subst, arith}
-use Rattle.pricing.specs.declared.figures.SideFigures.{SideFigures}
-use Rattle.pricing.specs.declared.figures.TariffFigures.{TariffFigures}
-use Rattle.pricing.specs.Shares.{basis, HasShares}
-use Rattle.pricing.specs.Tariffs.{side_of, SidePromised}
+use Rattle.std.proofs.Common.{arith}
 use Rattle.pricing.specs.Drafts.{drawing_of}
 use Rattle.pricing.proofs.Drawn.{promised}
 use Rattle.pricing.proofs.decision.draw.Goals as goal
 
-abbrev figures : SideFigures → SideFigures → TariffFigures
-figures e x = record { entries = e; exits = x }
-
 pub returns : goal.returns
 returns c =
-    let e = c.args.entries in
-    let x = c.args.exits in
-    let d = drawing_of c.args.allowed.dinars.0 e x in
-    let p = c.side_figures.result in
-    let q = c.side_figures-2.result in
-    let of-entries = c.in-Some.ensures.0 ∙ ap (λ n. basis n e.weights e.relief.parts) c.halves.ensures.entries in
-    let of-exits = c.in-Some-new.ensures.0 ∙ ap (λ n. basis n x.weights x.relief.parts) c.halves.ensures.exits in
-    let some = subst HasShares of-entries c.in-Some.entry_side.shared in
-    let others = subst HasShares of-exits c.in-Some-new.exit_side.shared in
-    let p-is = c.side_figures.ensures.value ∙ ap (λ b. side_of b e.lots) of-entries in
-    let q-is = c.side_figures-2.ensures.value ∙ ap (λ b. side_of b x.lots) of-exits in
+    let e = rw (c.in_ok-entry_figures.ensures.ok_part, c.halves.ensures.entries) at c.figures.ensures in
+    let x = rw (c.in_ok-exit_figures.ensures.ok_part, c.halves.ensures.exits) at c.figures-2.ensures in
     record {
-      drawn = (
-        ((λ z. omega (arith, some)), ((λ z. omega (arith, others)), tt)),
-        ap (λ s. figures s q) p-is ∙ ap (figures (side_of d.entries e.lots)) q-is,
-      );
-      promised =
-          promised d (figures p q) (omega arith)
-          (subst (λ b. SidePromised b e.lots p) of-entries c.side_figures.ensures.promised)
-          (subst (λ b. SidePromised b x.lots q) of-exits c.side_figures-2.ensures.promised);
+      drawn = (((λ z. omega (arith, e.0)), ((λ z. omega (arith, x.0)), tt)), rw (e.1, x.1));
+      promised = promised (drawing_of c.args.allowed.dinars.0 c.args.entries c.args.exits) _ (omega arith) e.2 x.2;
     }

@@ -7,7 +7,7 @@ returns-in-Some-clause-writes g c =
     let l = c.args.self.now in
     λ p ok.
     has_written_of_eq g.W.Write.write_str_gives _ _ _ _
-    (written_with l.side l.kind l.element c.letter-side.result c.letter-kind.result c.in-Some.tariff c.letter-side.ensures c.letter-kind.ensures c.in-Some.is)
+    (written_with l.0 l.1 l.2 c.letter-side.result c.letter-kind.result c.in-Some.tariff c.letter-side.ensures c.letter-kind.ensures c.in-Some.is)
     (c.write.ensures.writes p ok)
 
 pub returns-in-None-clause-writes : goal.returns-in-None-clause-writes
@@ -15,5 +15,5 @@ returns-in-None-clause-writes g c =
     let l = c.args.self.now in
     λ p ok.
     has_written_of_eq g.W.Write.write_str_gives _ _ _ _
-    (written_without l.side l.kind l.element c.letter-side.result c.letter-kind.result c.letter-side.ensures c.letter-kind.ensures c.in-None.is)
+    (written_without l.0 l.1 l.2 c.letter-side.result c.letter-kind.result c.letter-side.ensures c.letter-kind.ensures c.in-None.is)
     (c.write-in-None.ensures.writes p ok)
