@@ -1,12 +1,11 @@
 // Capacity products: terms with their letters, numbers and multipliers, and how long a product runs.
 ghost use Rattle.std.specs.Prelude.{◌≡◌, ◌<◌, ◌≤◌, MatchBool};
-ghost use Rattle.std.specs.Option.{ok_or};
-ghost use Rattle.std.specs.Result.{result_ok};
-ghost use Rattle.terms.specs.Letters.{Spells};
+ghost use Rattle.terms.specs.Letters.{Reads};
 ghost use Rattle.pricing.specs.Limits.{last_quarter, last_month, longest_year};
 ghost use Rattle.pricing.specs.Products.{term_letter, term_of, Exists, NoSuch, InRange, OutOfRange, month_days, quarter_days, runs_in, year_in};
 
 use crate::year::Year;
+use terms::points::UnknownLetter;
 
 // The last quarter of a gas year, counted from 0.
 const LAST_QUARTER: u32 = 3;
@@ -48,10 +47,6 @@ pub struct Product {
     pub number: u32,
 }
 
-// A letter that writes no term.
-#[derive(Clone, Copy, PartialEq, Eq, Debug)]
-pub struct UnknownLetter(pub char);
-
 impl From<Term> for char {
     ghost from_gives = { λ t c. c ≡ term_letter t };
 
@@ -66,10 +61,11 @@ impl From<Term> for char {
     }
 }
 
+// The term that a letter writes.
 impl TryFrom<char> for Term {
     type Error = UnknownLetter;
 
-    ghost try_from_gives = { λ c r. (r ≡ ok_or (term_of c) (record { 0 = c })) × Spells term_letter c (result_ok r) };
+    ghost try_from_gives = { Reads term_letter term_of };
 
     fn try_from(c: char) -> Result<Term, UnknownLetter> {
         match c {

@@ -10,7 +10,7 @@ use crate::figures::{ElementFigures, SideFigures, SideLots};
 use crate::plan::SidePlan;
 use crate::release::{hand_on, storage_share};
 use crate::sharing::Sharing;
-use terms::divisor::Divisor;
+use std::num::NonZeroU64;
 use terms::measures::{Dinars, Lots, PriceSteps};
 use terms::rounding::to_nearest;
 
@@ -23,7 +23,7 @@ fn element(share: Dinars<u64>, lots: Lots) -> ElementFigures
     ensures value { result ≡ element_of share.0 lots }
     ensures bound { steps_of result.tariff ≤ most_tariff }
 {
-    let tariff = Divisor::new(lots.0 as u64).map(|by| PriceSteps(to_nearest(
+    let tariff = NonZeroU64::new(lots.0 as u64).map(|by| PriceSteps(to_nearest(
         RSD_PER_THOUSAND * share.0,
         by,
     )));

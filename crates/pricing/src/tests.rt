@@ -3,12 +3,12 @@ use crate::basis::Weights;
 use crate::decision::{Draft, draw};
 use crate::figures::{ElementFigures, SideFigures, SideLots, TariffFigures};
 use crate::plan::SidePlan;
-use crate::products::{Product, Term, UnknownLetter};
+use crate::products::{Product, Term};
 use crate::relief::Relief;
 use std::test::Fail;
 use terms::faults::BookFault;
 use terms::measures::{Dinars, Lots, PriceSteps};
-use terms::points::{Kind, Side};
+use terms::points::{Kind, Side, UnknownLetter};
 
 // A side's plan: weights and lots of main, other and storage, and the relief.
 fn plan(weights: (u64, u64, u64), lots: (u32, u32, u32), relief: u32) -> Result<SidePlan, Fail> {

@@ -17,8 +17,6 @@ impl fmt::Display for Line {
 
     fn fmt<W: fmt::Write>(&self, f: &mut fmt::Formatter<W>) -> fmt::Result {
         let Line(side, kind, element) = self;
-        let side = side.letter();
-        let kind = kind.letter();
         let share = element.share.0;
         match element.tariff {
             Some(tariff) => {

@@ -11,7 +11,7 @@ use crate::decision::Approved;
 use crate::figures::TariffFigures;
 use crate::products::{MULTIPLIER_ONE, Product};
 use crate::year::Year;
-use terms::divisor::Divisor;
+use std::num::NonZeroU64;
 use terms::faults::BookFault;
 use terms::measures::PriceSteps;
 use terms::points::{Kind, Side};
@@ -25,7 +25,7 @@ fn short_price(tariff: PriceSteps, product: Product, multiplier: u32, year: Year
     ensures { result.0 ≡ price_in year.days multiplier tariff.0 product }
 {
     let exact = multiplier as u64 * tariff.0 * product.runs(year);
-    let by = Divisor::new(MULTIPLIER_ONE as u64 * product.term.year_in(year)).unwrap();
+    let by = NonZeroU64::new(MULTIPLIER_ONE as u64 * product.term.year_in(year)).unwrap();
     PriceSteps(to_nearest(exact, by))
 }
 
