@@ -1,4 +1,4 @@
-use Rattle.std.proofs.Common.{◌≡◌, ℕ, ◌+◌, ◌*◌, ◌<◌, List, [], ◌∷◌, ◌++◌, length, vec_items, sym, ap, ◌∙◌, subst, ⊎_elim, arith}
+use Rattle.std.proofs.Common.{◌≡◌, ℕ, ◌+◌, ◌*◌, ◌<◌, List, [], ◌∷◌, ◌++◌, length, vec_items, sym, ◌∙◌, subst, ⊎_elim, arith}
 use Rattle.std.proofs.lemmas.List.{get_or_append_left, get_or_push}
 use Rattle.std.proofs.lemmas.Nat.{div-mul-add, mod-mul-add}
 use Rattle.network.specs.Net.{Net}
@@ -27,10 +27,10 @@ loop-b-preserved g c =
     let n = c.stations-n.result in
     let a = c.loop-a.a in
     let b = c.loop-b.b in
-    let told =
-    pushed net n a b c.figure.result (vec_items c.loop-b.figures) (omega arith) c.loop-b-test.true
-    (c.figure.ensures ∙ ap figure_of c.distance.ensures) c.loop-b.invariant.1 in
-    (omega (arith, c.in_ok-push.ensures.len), subst (Told net n (a * n + (b + 1))) (sym c.in_ok-push.ensures.items) told)
+    let is : c.figure.result ≡ figure_of (net.distance a b) = cc in
+    let told : Told net n (a * n + (b + 1)) (vec_items c.loop-b.figures ++ c.figure.result ∷ []) =
+    pushed net n a b c.figure.result (vec_items c.loop-b.figures) (omega arith) c.loop-b-test.true is c.loop-b.invariant.1 in
+    (omega (arith, c.in_ok-push.ensures.len), rw (c.in_ok-push.ensures.items) told)
 
 pub returns : goal.returns
 returns g c =

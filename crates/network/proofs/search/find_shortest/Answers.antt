@@ -37,7 +37,7 @@ loop-k-preserved c =
     let k = c.loop-k.k in
     let same = c.loop-k.invariant.0 in
     let told = subst (λ (x : ℕ). (p q : ℕ) → p < x → q < x → at x vs p q ≡ through x ws k p q) same c.relax.ensures.figures in
-    (c.relax.ensures.count ∙ same, next_stage n c.args.pipes.now c.requires.1 ws vs k c.loop-k-test.true told c.loop-k.invariant.1)
+    (c.relax.ensures.count ∙ same, next_stage n c.args.pipes.now c.requires.1 ws vs k (omega arith) told c.loop-k.invariant.1)
 
 pub returns : goal.returns
 returns c =
