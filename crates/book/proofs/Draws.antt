@@ -5,11 +5,11 @@ use Rattle.terms.specs.declared.points.Side.TheVariants.{Entry, Exit}
 use Rattle.terms.specs.declared.points.Kind.{Kind}
 use Rattle.terms.specs.declared.points.Kind.TheVariants.{Storage}
 use Rattle.terms.specs.declared.faults.BookFault.{BookFault}
+use Rattle.terms.specs.declared.measures.Lots.{Lots}
 use Rattle.terms.specs.Faults.{book_refusal}
 use Rattle.terms.specs.Refusals.{FirstBroken, NoneBroken}
 use Rattle.network.specs.Net.{Net}
-use Rattle.pricing.specs.declared.basis.Weights.{Weights}
-use Rattle.pricing.specs.declared.figures.SideLots.{SideLots}
+use Rattle.pricing.specs.declared.elements.Elements.{Elements}
 use Rattle.pricing.specs.declared.plan.SidePlan.{SidePlan}
 use Rattle.pricing.specs.declared.relief.Relief.{Relief}
 use Rattle.pricing.specs.declared.decision.Draft.{Draft}
@@ -44,13 +44,13 @@ sum_by_records f g same k b s (q ∷ qs) = by (same_side s q.side) (sum_by_recor
     by true e = ap (λ n. cond (same_kind k q.kind) n 0 + sum_by (λ r. r.kind) f k (records_from (suc b) s qs)) (same b q) ∙ ap (λ n. cond (same_kind k q.kind) (g q) 0 + n) e
     by false e = e
 
-abbrev lots : ℕ → ℕ → ℕ → SideLots
+abbrev lots : ℕ → ℕ → ℕ → Elements Lots
 lots a b c = record { main = record { 0 = a }; other = record { 0 = b }; storage = record { 0 = c } }
 
 same_lots : (a b c a' b' c' : ℕ) → a ≡ a' → b ≡ b' → c ≡ c' → lots a b c ≡ lots a' b' c'
 same_lots a b c a' b' c' p q r = ap (λ x. lots x b c) p ∙ ap (λ x. lots a' x c) q ∙ ap (λ x. lots a' b' x) r
 
-abbrev weights : ℕ → ℕ → ℕ → Weights
+abbrev weights : ℕ → ℕ → ℕ → Elements ℕ
 weights a b c = record { main = a; other = b; storage = c }
 
 same_weights : (a b c a' b' c' : ℕ) → a ≡ a' → b ≡ b' → c ≡ c' → weights a b c ≡ weights a' b' c'
@@ -73,7 +73,7 @@ module _ (net : Net) (t : PointTable) (p : Plain) (sh : Shows t p) where
   lots_shown s = same_lots _ _ _ _ _ _ (lots_by s (main_kind s)) (lots_by s (other_kind s)) (lots_by s Storage)
 
 -- a drawing, from the figures that tables and plain books have
-abbrev drawing_from : ℕ → Weights → ℕ → SideLots → Weights → ℕ → SideLots → Drawing
+abbrev drawing_from : ℕ → Elements ℕ → ℕ → Elements Lots → Elements ℕ → ℕ → Elements Lots → Drawing
 drawing_from a w r l w' r' l' = record { allowed = a; entries = basis (half_of a Entry) w r; entry_lots = l; exits = basis (half_of a Exit) w' r'; exit_lots = l' }
 
 module _ (net : Net) (t : PointTable) (p : Plain) (sh : Shows t p) where

@@ -6,7 +6,7 @@ use Rattle.terms.specs.declared.points.Kind.{Kind}
 use Rattle.terms.specs.declared.points.Kind.TheVariants.{Storage}
 use Rattle.network.specs.Limits.{longest}
 use Rattle.network.specs.Net.{Net, Lawful}
-use Rattle.pricing.specs.declared.basis.Weights.{Weights}
+use Rattle.pricing.specs.declared.elements.Elements.{Elements}
 use Rattle.rules.specs.Limits.{most_lots}
 use Rattle.rules.specs.Weights.{main_kind, other_kind, same_kind, sum_of, sum_by, km}
 use Rattle.book.specs.declared.record.PointRecord.{PointRecord}
@@ -14,7 +14,7 @@ use Rattle.book.specs.Records.{record_lots, blank}
 use Rattle.book.specs.Tallies.{no_weights, plus, both, tally, record_load, record_reach, record_weights, brought, Within, most_reach}
 use Rattle.book.proofs.Sums.{sum_of_push, sum_of_take, sum_of_at, sum_by_push, sum_by_le}
 
-abbrev weights : ℕ → ℕ → ℕ → Weights
+abbrev weights : ℕ → ℕ → ℕ → Elements ℕ
 weights a b c = record { main = a; other = b; storage = c }
 
 same_weights : (a b c a' b' c' : ℕ) → a ≡ a' → b ≡ b' → c ≡ c' → weights a b c ≡ weights a' b' c'
@@ -29,10 +29,10 @@ tally_push s f xs x =
 pub tally_more : (s : Side) (f : PointRecord → ℕ) (xs : List PointRecord) (i : ℕ) (d : PointRecord) → i < length xs → plus s (get_or xs i d).kind (tally s f (take i xs)) (f (get_or xs i d)) ≡ tally s f (take (i + 1) xs)
 tally_more s f xs i d l = tally_push s f (take i xs) (get_or xs i d) ∙ ap (tally s f) (sym (take_more xs i d l))
 
-pub plus_both : (s : Side) (k : Kind) (a w : Weights) (n : ℕ) → plus s k (both a w) n ≡ both a (plus s k w n)
+pub plus_both : (s : Side) (k : Kind) (a w : Elements ℕ) (n : ℕ) → plus s k (both a w) n ≡ both a (plus s k w n)
 plus_both s k a w n = same_weights _ _ _ _ _ _ (omega arith) (omega arith) (omega arith)
 
-pub both_none : (a : Weights) → a ≡ both a no_weights
+pub both_none : (a : Elements ℕ) → a ≡ both a no_weights
 both_none a = same_weights _ _ _ _ _ _ (omega arith) (omega arith) (omega arith)
 
 -- ---- bounds
@@ -40,10 +40,10 @@ both_none a = same_weights _ _ _ _ _ _ (omega arith) (omega arith) (omega arith)
 pub within_none : Within no_weights 0
 within_none = record { main = omega arith; other = omega arith; storage = omega arith }
 
-pub within_le : (w : Weights) (a b : ℕ) → a ≤ b → Within w a → Within w b
+pub within_le : (w : Elements ℕ) (a b : ℕ) → a ≤ b → Within w a → Within w b
 within_le w a b l h = record { main = (let x = h.main in omega arith); other = (let x = h.other in omega arith); storage = (let x = h.storage in omega arith) }
 
-pub plus_within : (s : Side) (k : Kind) (w : Weights) (n b : ℕ) → Within w b → Within (plus s k w n) (b + n)
+pub plus_within : (s : Side) (k : Kind) (w : Elements ℕ) (n b : ℕ) → Within w b → Within (plus s k w n) (b + n)
 plus_within s k w n b h = record { main = by (same_kind (main_kind s) k) w.main h.main; other = by (same_kind (other_kind s) k) w.other h.other; storage = by (same_kind Storage k) w.storage h.storage }
   where
     by : (t : Bool) (m : ℕ) → m ≤ b → m + cond t n 0 ≤ b + n

@@ -3,19 +3,19 @@ use Rattle.std.specs.Prelude.{ℕ, ◌+◌, ◌*◌, ◌≤◌, cond, List}
 use Rattle.terms.specs.declared.points.Side.{Side}
 use Rattle.terms.specs.declared.points.Kind.{Kind}
 use Rattle.terms.specs.declared.points.Kind.TheVariants.{Storage}
+use Rattle.terms.specs.declared.measures.Lots.{Lots}
 use Rattle.network.specs.Limits.{longest}
 use Rattle.network.specs.Net.{Net}
-use Rattle.pricing.specs.declared.basis.Weights.{Weights}
-use Rattle.pricing.specs.declared.figures.SideLots.{SideLots}
+use Rattle.pricing.specs.declared.elements.Elements.{Elements}
 use Rattle.rules.specs.Limits.{most_lots}
 use Rattle.rules.specs.Weights.{main_kind, other_kind, same_kind, sum_of, sum_by, km}
 use Rattle.book.specs.declared.record.PointRecord.{PointRecord}
 
-abbrev pub no_weights : Weights
+abbrev pub no_weights : Elements ℕ
 no_weights = record { main = 0; other = 0; storage = 0 }
 
 -- one figure more, for the element of this side and kind
-abbrev pub plus : Side → Kind → Weights → ℕ → Weights
+abbrev pub plus : Side → Kind → Elements ℕ → ℕ → Elements ℕ
 plus s k w n = record {
   main = w.main + cond (same_kind (main_kind s) k) n 0;
   other = w.other + cond (same_kind (other_kind s) k) n 0;
@@ -23,11 +23,11 @@ plus s k w n = record {
 }
 
 -- two figures for each element, added up
-abbrev pub both : Weights → Weights → Weights
+abbrev pub both : Elements ℕ → Elements ℕ → Elements ℕ
 both a b = record { main = a.main + b.main; other = a.other + b.other; storage = a.storage + b.storage }
 
 -- the sum of a figure over the records of each element
-abbrev pub tally : Side → (PointRecord → ℕ) → List PointRecord → Weights
+abbrev pub tally : Side → (PointRecord → ℕ) → List PointRecord → Elements ℕ
 tally s f rs = record {
   main = sum_by (λ r. r.kind) f (main_kind s) rs;
   other = sum_by (λ r. r.kind) f (other_kind s) rs;
@@ -35,7 +35,7 @@ tally s f rs = record {
 }
 
 -- the lots of a side's elements
-abbrev pub record_side_lots : Side → List PointRecord → SideLots
+abbrev pub record_side_lots : Side → List PointRecord → Elements Lots
 record_side_lots s rs = record {
   main = record { 0 = (tally s (λ r. r.lots.0) rs).main };
   other = record { 0 = (tally s (λ r. r.lots.0) rs).other };
@@ -51,7 +51,7 @@ abbrev pub record_reach : Net → ℕ → List PointRecord → ℕ
 record_reach net at rs = sum_of (record_load net at) rs
 
 -- the weights of a side's elements, against the records of the other side
-abbrev pub record_weights : Net → Side → List PointRecord → List PointRecord → Weights
+abbrev pub record_weights : Net → Side → List PointRecord → List PointRecord → Elements ℕ
 record_weights net s own other = tally s (λ r. r.lots.0 * record_reach net r.station other) own
 
 -- what a record adds to the weight of another one, opposite to it
@@ -59,7 +59,7 @@ abbrev pub brought : Net → PointRecord → PointRecord → ℕ
 brought net e x = e.lots.0 * record_load net e.station x
 
 -- no figure is above this
-pub record Within (w : Weights) (most : ℕ) : Type 0 where
+pub record Within (w : Elements ℕ) (most : ℕ) : Type 0 where
   pub main : w.main ≤ most
   pub other : w.other ≤ most
   pub storage : w.storage ≤ most

@@ -6,7 +6,7 @@ use Rattle.terms.specs.declared.measures.Lots.{Lots}
 use Rattle.terms.specs.Rounding.{nearest}
 use Rattle.terms.proofs.Halves.{nearest_within}
 use Rattle.pricing.specs.declared.basis.Basis.{Basis}
-use Rattle.pricing.specs.declared.figures.SideLots.{SideLots}
+use Rattle.pricing.specs.declared.elements.Elements.{Elements}
 use Rattle.pricing.specs.Shares.{weight, others, HasShares, first_storage, storage_share, left_over, main_share, other_share}
 use Rattle.pricing.specs.Tariffs.{steps, rsd, tariff_of, side_of, paid, planned, takings, Weighed, Collects}
 use Rattle.pricing.proofs.Parts.{storage_le, main_le}
@@ -40,7 +40,7 @@ no_storage b e =
 pub whole_shares : (b : Basis) → main_share b + other_share b + storage_share b ≡ b.amount.0
 whole_shares b = omega (arith, main_le b, storage_le b)
 
-pub side_collects : (b : Basis) (l : SideLots) → HasShares b → Weighed b l → Collects b.amount.0 (planned l) (takings (side_of b l) l)
+pub side_collects : (b : Basis) (l : Elements Lots) → HasShares b → Weighed b l → Collects b.amount.0 (planned l) (takings (side_of b l) l)
 side_collects b l some w =
     let m = element_collects (main_share b) l.main (λ e. no_main b (w.main e)) in
     let p = element_collects (other_share b) l.other (λ e. no_other b some (w.other e)) in

@@ -1,7 +1,8 @@
 -- What the two steps of a side's split give is what its shares are defined to be, and keeps what is promised of them.
 use Rattle.std.proofs.Common.{◌≡◌, ℕ, ◌+◌, ◌-◌, ◌≤◌, ap, ◌∙◌}
+use Rattle.terms.specs.declared.measures.Lots.{Lots}
 use Rattle.pricing.specs.declared.basis.Basis.{Basis}
-use Rattle.pricing.specs.declared.figures.SideLots.{SideLots}
+use Rattle.pricing.specs.declared.elements.Elements.{Elements}
 use Rattle.pricing.specs.Limits.{whole_relief}
 use Rattle.pricing.specs.Shares.{HasShares, first_storage, released, left_over, main_part, main_share, other_share}
 use Rattle.pricing.specs.Tariffs.{side_of, SidePromised}
@@ -22,7 +23,7 @@ module _ (b : Basis) (relieved : b.relief ≤ whole_relief) (before freed main o
   pub other_is : before + freed - main_part (before + freed) main other ≡ other_share b
   other_is = ap (λ x. x - main_part (before + freed) main other) left ∙ ap (λ x. left_over b - x) main_is
 
-pub side_promised : (b : Basis) (l : SideLots) → HasShares b → b.relief ≤ whole_relief → SidePromised b l (side_of b l)
+pub side_promised : (b : Basis) (l : Elements Lots) → HasShares b → b.relief ≤ whole_relief → SidePromised b l (side_of b l)
 side_promised b l some relieved =
     record {
       whole = whole_shares b;

@@ -1,10 +1,11 @@
 -- A draft: what it is drawn from, the rules of a draw, and what is promised of the six shares and tariffs.
 use Rattle.std.specs.Prelude.{◌≡◌, ℕ, ◌+◌, List, [], ◌∷◌}
 use Rattle.terms.specs.declared.faults.BookFault.TheVariants.{NoEntryShares, NoExitShares}
+use Rattle.terms.specs.declared.measures.Lots.{Lots}
 use Rattle.terms.specs.Faults.{book_refusal}
 use Rattle.terms.specs.Refusals.{Rule, rule}
 use Rattle.pricing.specs.declared.basis.Basis.{Basis}
-use Rattle.pricing.specs.declared.figures.SideLots.{SideLots}
+use Rattle.pricing.specs.declared.elements.Elements.{Elements}
 use Rattle.pricing.specs.declared.figures.TariffFigures.{TariffFigures}
 use Rattle.pricing.specs.declared.plan.SidePlan.{SidePlan}
 use Rattle.pricing.specs.Shares.{entries_half, exits_half, basis, others}
@@ -14,9 +15,9 @@ use Rattle.pricing.specs.Tariffs.{side_of, shared, planned, takings, Weighed, Co
 pub record Drawing : Type 0 where
   pub allowed : ℕ
   pub entries : Basis
-  pub entry_lots : SideLots
+  pub entry_lots : Elements Lots
   pub exits : Basis
-  pub exit_lots : SideLots
+  pub exit_lots : Elements Lots
 
 -- what is drawn from an allowed revenue and the plans of both sides
 abbrev pub drawing_of : ℕ → SidePlan → SidePlan → Drawing

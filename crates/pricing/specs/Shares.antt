@@ -1,7 +1,7 @@
 -- How the allowed revenue is halved, and how a side's amount is shared out among its three elements.
 use Rattle.std.specs.Prelude.{ℕ, ◌+◌, ◌-◌, ◌*◌, ◌/◌, ◌<◌}
 use Rattle.terms.specs.declared.measures.Dinars.{Dinars}
-use Rattle.pricing.specs.declared.basis.Weights.{Weights}
+use Rattle.pricing.specs.declared.elements.Elements.{Elements}
 use Rattle.pricing.specs.declared.basis.Basis.{Basis}
 use Rattle.pricing.specs.Limits.{whole_relief}
 
@@ -18,7 +18,7 @@ abbrev pub exits_half : ℕ → ℕ
 exits_half allowed = allowed - entries_half allowed
 
 -- what a side with this amount, these weights and this relief is shared out from
-abbrev pub basis : ℕ → Weights → ℕ → Basis
+abbrev pub basis : ℕ → Elements ℕ → ℕ → Basis
 basis amount w relief =
     record { amount = dinars amount; main = w.main; other = w.other; storage = w.storage; relief = relief }
 

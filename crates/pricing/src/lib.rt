@@ -4,6 +4,7 @@
 pub mod amount;
 pub mod basis;
 pub mod decision;
+pub mod elements;
 pub mod figures;
 pub mod plan;
 pub mod products;

@@ -6,7 +6,8 @@ use Rattle.terms.specs.declared.points.Side.TheVariants.{Entry, Exit}
 use Rattle.terms.specs.declared.faults.BookFault.TheVariants.{NoEntryShares, NoExitShares}
 use Rattle.network.specs.Net.{Net}
 use Rattle.revenue.specs.Law.{Accepted, Balanced}
-use Rattle.pricing.specs.declared.figures.SideFigures.{SideFigures}
+use Rattle.pricing.specs.declared.elements.Elements.{Elements}
+use Rattle.pricing.specs.declared.figures.ElementFigures.{ElementFigures}
 use Rattle.pricing.specs.declared.figures.TariffFigures.{TariffFigures}
 use Rattle.pricing.specs.Fractions.{Fraction, fraction, whole, times, Same}
 use Rattle.pricing.specs.Shares.{weight, HasShares}
@@ -55,7 +56,7 @@ abbrev pub HasExactShares : Net → Plain → Side → Type 0
 HasExactShares net p s = HasShares (basis_of net p s)
 
 -- one side of the six
-abbrev pub side_in : TariffFigures → Side → SideFigures
+abbrev pub side_in : TariffFigures → Side → Elements ElementFigures
 side_in f Entry = f.entries
 side_in f Exit = f.exits
 

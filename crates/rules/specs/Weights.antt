@@ -4,10 +4,10 @@ use Rattle.terms.specs.declared.points.Side.{Side}
 use Rattle.terms.specs.declared.points.Side.TheVariants.{Entry, Exit}
 use Rattle.terms.specs.declared.points.Kind.{Kind}
 use Rattle.terms.specs.declared.points.Kind.TheVariants.{Transmission, Production, Storage, Local, Interconnector}
+use Rattle.terms.specs.declared.measures.Lots.{Lots}
 use Rattle.network.specs.Net.{Net}
 use Rattle.pricing.specs.declared.basis.Basis.{Basis}
-use Rattle.pricing.specs.declared.basis.Weights.{Weights}
-use Rattle.pricing.specs.declared.figures.SideLots.{SideLots}
+use Rattle.pricing.specs.declared.elements.Elements.{Elements}
 use Rattle.pricing.specs.Drafts.{Drawing}
 use Rattle.pricing.specs.Shares.{entries_half, exits_half, basis}
 use Rattle.rules.specs.Points.{Point, Plain, opposite, on_side}
@@ -81,7 +81,7 @@ abbrev pub lots_in : List Point → Side → Kind → ℕ
 lots_in points s k = sum_by (λ q. q.kind) (λ q. q.lots) k (on_side s points)
 
 -- the weights of a side's three elements
-abbrev pub weights_of : Net → List Point → Side → Weights
+abbrev pub weights_of : Net → List Point → Side → Elements ℕ
 weights_of net points s = record {
   main = weight_of net points s (main_kind s);
   other = weight_of net points s (other_kind s);
@@ -89,7 +89,7 @@ weights_of net points s = record {
 }
 
 -- and their lots
-abbrev pub side_lots : List Point → Side → SideLots
+abbrev pub side_lots : List Point → Side → Elements Lots
 side_lots points s = record {
   main = record { 0 = lots_in points s (main_kind s) };
   other = record { 0 = lots_in points s (other_kind s) };

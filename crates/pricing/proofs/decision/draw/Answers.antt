@@ -1,5 +1,6 @@
 use Rattle.std.proofs.Common.{ap, ◌∙◌, subst, arith}
-use Rattle.pricing.specs.declared.figures.SideFigures.{SideFigures}
+use Rattle.pricing.specs.declared.elements.Elements.{Elements}
+use Rattle.pricing.specs.declared.figures.ElementFigures.{ElementFigures}
 use Rattle.pricing.specs.declared.figures.TariffFigures.{TariffFigures}
 use Rattle.pricing.specs.Shares.{basis, HasShares}
 use Rattle.pricing.specs.Tariffs.{side_of, SidePromised}
@@ -7,7 +8,7 @@ use Rattle.pricing.specs.Drafts.{drawing_of}
 use Rattle.pricing.proofs.Drawn.{promised}
 use Rattle.pricing.proofs.decision.draw.Goals as goal
 
-abbrev figures : SideFigures → SideFigures → TariffFigures
+abbrev figures : Elements ElementFigures → Elements ElementFigures → TariffFigures
 figures e x = record { entries = e; exits = x }
 
 pub returns : goal.returns
