@@ -1,65 +1,47 @@
 -- One distance more of a pass.
-use Rattle.std.proofs.Common.{◌≡◌, ℕ, ◌<◌, Bool, true, false, ◌||◌, ltb, ◌⊎◌, List, [], ◌∷◌, ◌++◌, Some, None, Option, sym, refl, ap, subst, inl, inr, arith}
-use mathlib.Core.List.Memᴰ
-use mathlib.Core.List.{Memᴰ}
-use Rattle.std.proofs.ByRecursion.{All-push}
-use Rattle.std.proofs.lemmas.Bool.{ltb-true, ltb-false}
+use Rattle.std.proofs.Common.{◌≡◌, ℕ, ◌<◌, ◌≤◌, true, false, cond, ◌⊎◌, List, [], ◌∷◌, ◌++◌, Some, None, nat_cmp, refl, ap, inl, inr, arith}
+use Rattle.std.specs.List.{All}
+use Rattle.std.specs.Ordering.{ord_max, is_lt}
+use Rattle.std.proofs.lemmas.Grind.{common_steps}
+use Rattle.std.proofs.lemmas.List.Elements.{All-push}
+use Rattle.std.proofs.lemmas.List.Quantifiers.{Any-push}
 use Rattle.network.specs.Net.{Net}
 use Rattle.rules.specs.Limits.{farthest}
 use Rattle.rules.specs.Weights.{km}
 use Rattle.book.specs.declared.record.PointRecord.{PointRecord}
-use Rattle.book.specs.declared.pass.Pass.{Pass}
-use Rattle.book.specs.Passes.{unmet, met, Finds, Met}
+use Rattle.book.specs.Passes.{Strays}
 
-mem_front : {X : Type 0} (x : X) (xs ys : List X) → Memᴰ x xs → Memᴰ x (xs ++ ys)
-mem_front x [] ys m = absurd (Memᴰ.not-nil m)
-mem_front x (z ∷ xs) ys m = by (Memᴰ.cases_cons m) (mem_front x xs ys)
-  where
-    by : (x ≡ z) ⊎ Memᴰ x xs → (Memᴰ x xs → Memᴰ x (xs ++ ys)) → Memᴰ x (z ∷ (xs ++ ys))
-    by (inl e) rest = Memᴰ.head e
-    by (inr k) rest = Memᴰ.tail (rest k)
+-- None of these records lacks a distance, none is farther than the farthest so far, and where that is too far one is.
+pub record Seen (net : Net) (at : ℕ) (rs : List PointRecord) (far : ℕ) : Type 0 where
+  pub reached : All (λ r. net.distance at r.station ≡ None → ⊥) rs
+  pub within : All (λ r. km (net.distance at r.station) ≤ far) rs
+  pub strays : farthest < far → Strays net at rs
 
-mem_last : {X : Type 0} (x : X) (xs : List X) → Memᴰ x (xs ++ (x ∷ []))
-mem_last x [] = Memᴰ.head refl
-mem_last x (z ∷ xs) = Memᴰ.tail (mem_last x xs)
+le_first : (a b : ℕ) → a ≤ ord_max nat_cmp a b
+le_first a b = grind (arith, common_steps)
 
--- one record more, where P is not true of its station
-finds_not : (P : ℕ → Type 0) (rs : List PointRecord) (r : PointRecord) (b : Bool) → (P r.station → ⊥) → Finds P rs b → Finds P (rs ++ (r ∷ [])) b
-finds_not P rs r true n f = (f.0, mem_front f.0 rs (r ∷ []) f.1, f.2)
-finds_not P rs r false n f = All-push (λ x. P x.station → ⊥) rs r f n
+le_second : (a b : ℕ) → b ≤ ord_max nat_cmp a b
+le_second a b = grind (arith, common_steps)
 
--- one record more, where it is
-finds_yes : (P : ℕ → Type 0) (rs : List PointRecord) (r : PointRecord) → P r.station → Finds P (rs ++ (r ∷ [])) true
-finds_yes P rs r p = (r, mem_last r rs, p)
+either : (a b : ℕ) → (ord_max nat_cmp a b ≡ a) ⊎ (ord_max nat_cmp a b ≡ b)
+either a b = elim (is_lt (nat_cmp b a)) as (λ v. (cond v a b ≡ a) ⊎ (cond v a b ≡ b)) [ true ↦ inl refl | false ↦ inr refl ]
 
-finds_test : (P : ℕ → Type 0) (rs : List PointRecord) (r : PointRecord) (b t : Bool) → (t ≡ true → P r.station) → (t ≡ false → P r.station → ⊥) → Finds P rs b → Finds P (rs ++ (r ∷ [])) (b || t)
-finds_test P rs r true true y n f = finds_yes P rs r (y refl)
-finds_test P rs r true false y n f = finds_not P rs r true (n refl) f
-finds_test P rs r false true y n f = finds_yes P rs r (y refl)
-finds_test P rs r false false y n f = finds_not P rs r false (n refl) f
+module _ (net : Net) (at : ℕ) (rs : List PointRecord) (r : PointRecord) where
+  strays_push : Strays net at rs → Strays net at (rs ++ (r ∷ []))
+  strays_push s = (s.0, s.1, grind (arith, common_steps, s.2), grind (arith, common_steps, s.2, s.3), s.4)
 
-module _ (net : Net) (at : ℕ) (rs : List PointRecord) (r : PointRecord) (p : Pass) where
-  abbrev Lacks : ℕ → Type 0
-  Lacks n = net.distance at n ≡ None
+  pub seen_push : (far d : ℕ) → net.distance at r.station ≡ Some d → Seen net at rs far → Seen net at (rs ++ (r ∷ [])) (ord_max nat_cmp far d)
+  seen_push far d e s =
+      let k = ap km e in
+      let up = le_first far d in
+      let here : km (net.distance at r.station) ≤ ord_max nat_cmp far d = let m = le_second far d in omega arith in record {
+        reached = All-push (λ x. net.distance at x.station ≡ None → ⊥) rs r s.reached (λ n. grind (arith, e, n));
+        within = All-push (λ x. km (net.distance at x.station) ≤ ord_max nat_cmp far d) rs r (λ i z l. let m = s.within i z l in omega (arith, m, up)) here;
+        strays = λ l. elim (either far d) [
+          | inl f ↦ strays_push (s.strays (omega arith))
+          | inr f ↦ Any-push (λ x. farthest < km (net.distance at x.station)) rs r (omega arith)
+        ];
+      }
 
-  abbrev Strays : ℕ → Type 0
-  Strays n = farthest < km (net.distance at n)
-
-  by_distance : (o : Option ℕ) → net.distance at r.station ≡ o → Met net at rs p → Met net at (rs ++ (r ∷ [])) (met p o)
-  by_distance None e m = record {
-    lacking = finds_yes Lacks rs r e;
-    far = finds_not Strays rs r p.far (λ l. let k = ap km e in omega arith) m.far;
-  }
-  by_distance (Some d) e m = record {
-    lacking = finds_not Lacks rs r p.lacking (λ n. let z : ◌≡◌ {A = ℕ} 0 1 = cc in omega arith) m.lacking;
-    far = finds_test Strays rs r p.far (ltb farthest d)
-        (λ t. let h = ltb-true farthest d t in let k = ap km e in omega arith)
-        (λ t l. let h = ltb-false farthest d t in let k = ap km e in omega arith)
-        m.far;
-  }
-
-  pub met_more : (q : Pass) (o : Option ℕ) → q ≡ met p o → o ≡ net.distance at r.station → Met net at rs p → Met net at (rs ++ (r ∷ [])) q
-  met_more q o i e m = subst (Met net at (rs ++ (r ∷ []))) (sym i) (by_distance o (sym e) m)
-
-pub met_none : (net : Net) (at : ℕ) → Met net at [] unmet
-met_none net at = record { lacking = tt; far = tt }
+pub seen_none : (net : Net) (at : ℕ) → Seen net at [] 0
+seen_none net at = record { reached = λ k d l. absurd (omega arith); within = λ k d l. absurd (omega arith); strays = λ l. absurd (omega arith) }

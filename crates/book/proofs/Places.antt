@@ -1,19 +1,13 @@
 -- Where the record of a point stands, and what a plan of it changes.
-use Rattle.std.proofs.Common.{◌≡◌, ℕ, zero, suc, ◌+◌, ◌<◌, ◌≤◌, Bool, true, false, cond, eqb, List, [], ◌∷◌, length, get_or, set, Some, None, sym, refl, ap, ◌∙◌, arith, eq-eqb}
-use Rattle.std.specs.List.{slice_get, AllByRecursion}
-use Rattle.std.proofs.lemmas.Bool.Decides.{nat_tests}
+use Rattle.std.proofs.Common.{◌≡◌, ℕ, zero, suc, ◌+◌, ◌<◌, ◌≤◌, Bool, true, false, cond, List, [], ◌∷◌, length, get_or, set, Some, sym, refl, ap, ◌∙◌, arith}
+use Rattle.std.specs.List.{slice_get, All}
 use Rattle.terms.specs.declared.points.Side.{Side}
 use Rattle.terms.specs.declared.points.Side.TheVariants.{Entry, Exit}
 use Rattle.rules.specs.Points.{Point, with_lots, same_side}
 use Rattle.rules.specs.Plain.{planned}
 use Rattle.book.specs.declared.record.PointRecord.{PointRecord}
+use Rattle.rules.proofs.Sides.{side_is, planned_here, planned_later, planned_past}
 use Rattle.book.specs.Records.{record_of, records_from, relotted, blank}
-
-pub side_from_test : (s t : Side) → same_side s t ≡ true → t ≡ s
-side_from_test Entry Entry e = refl
-side_from_test Entry Exit e = cc
-side_from_test Exit Entry e = cc
-side_from_test Exit Exit e = refl
 
 -- the numbers of records are b and more
 pub number_from : (b : ℕ) (s : Side) (qs : List Point) (i : ℕ) (d : PointRecord) → i < length (records_from b s qs) → b ≤ (get_or (records_from b s qs) i d).number
@@ -42,43 +36,22 @@ standing b n s [] i l e = absurd (omega arith)
 standing b n s (q ∷ qs) i l e = by (same_side s q.side) refl i l e (λ j k f. standing (suc b) n s qs j k f)
   where
     by : (t : Bool) → same_side s q.side ≡ t → (j : ℕ) → j < length (cond t (record_of b q ∷ records_from (suc b) s qs) (records_from (suc b) s qs)) → (get_or (cond t (record_of b q ∷ records_from (suc b) s qs) (records_from (suc b) s qs)) j blank).number ≡ n → ((k : ℕ) → k < length (records_from (suc b) s qs) → (get_or (records_from (suc b) s qs) k blank).number ≡ n → Standing (suc b) n s qs (get_or (records_from (suc b) s qs) k blank)) → Standing b n s (q ∷ qs) (get_or (cond t (record_of b q ∷ records_from (suc b) s qs) (records_from (suc b) s qs)) j blank)
-    by true c zero m f rest = record { index = 0; point = q; number = omega arith; there = refl; side = side_from_test s q.side c; is = ap (λ x. record_of x q) f }
+    by true c zero m f rest = record { index = 0; point = q; number = omega arith; there = refl; side = side_is s q.side c; is = ap (λ x. record_of x q) f }
     by true c (suc j) m f rest = later b n s q qs _ (rest j (omega arith) f)
     by false c j m f rest = later b n s q qs _ (rest j m f)
 
 -- a number that no record of either side has is past the points
-pub absent : (b n : ℕ) (qs : List Point) → b ≤ n → AllByRecursion (λ r. r.number ≡ n → ⊥) (records_from b Entry qs) → AllByRecursion (λ r. r.number ≡ n → ⊥) (records_from b Exit qs) → b + length qs ≤ n
+pub absent : (b n : ℕ) (qs : List Point) → b ≤ n → All (λ r. r.number ≡ n → ⊥) (records_from b Entry qs) → All (λ r. r.number ≡ n → ⊥) (records_from b Exit qs) → b + length qs ≤ n
 absent b n [] l e x = omega arith
 absent b n (q ∷ qs) l e x = by q.side e x (λ k f g. absent (suc b) n qs k f g)
   where
-    by : (t : Side) → AllByRecursion (λ r. r.number ≡ n → ⊥) (cond (same_side Entry t) (record_of b q ∷ records_from (suc b) Entry qs) (records_from (suc b) Entry qs)) → AllByRecursion (λ r. r.number ≡ n → ⊥) (cond (same_side Exit t) (record_of b q ∷ records_from (suc b) Exit qs) (records_from (suc b) Exit qs)) → (suc b ≤ n → AllByRecursion (λ r. r.number ≡ n → ⊥) (records_from (suc b) Entry qs) → AllByRecursion (λ r. r.number ≡ n → ⊥) (records_from (suc b) Exit qs) → suc b + length qs ≤ n) → b + suc (length qs) ≤ n
-    by Entry f g rest = let ne = f.0 in let h = rest (omega arith) f.1 g in omega arith
-    by Exit f g rest = let ne = g.0 in let h = rest (omega arith) f g.1 in omega arith
-
-pub nth_below : (qs : List Point) (k : ℕ) (q : Point) → slice_get qs k ≡ Some q → k < length qs
-nth_below [] k q e = let z : ◌≡◌ {A = ℕ} 0 1 = cc in omega arith
-nth_below (x ∷ qs) zero q e = omega arith
-nth_below (x ∷ qs) (suc k) q e = let h = nth_below qs k q e in omega arith
-
-pub nth_past : (qs : List Point) (k : ℕ) → length qs ≤ k → slice_get qs k ≡ None
-nth_past [] zero l = refl
-nth_past [] (suc k) l = refl
-nth_past (x ∷ qs) zero l = absurd (omega arith)
-nth_past (x ∷ qs) (suc k) l = nth_past qs k (omega arith)
+    by : (t : Side) → All (λ r. r.number ≡ n → ⊥) (cond (same_side Entry t) (record_of b q ∷ records_from (suc b) Entry qs) (records_from (suc b) Entry qs)) → All (λ r. r.number ≡ n → ⊥) (cond (same_side Exit t) (record_of b q ∷ records_from (suc b) Exit qs) (records_from (suc b) Exit qs)) → (suc b ≤ n → All (λ r. r.number ≡ n → ⊥) (records_from (suc b) Entry qs) → All (λ r. r.number ≡ n → ⊥) (records_from (suc b) Exit qs) → suc b + length qs ≤ n) → b + suc (length qs) ≤ n
+    by Entry f g rest = let ne = f 0 (record_of b q) (omega arith) in let h = rest (omega arith) (λ k d l. f (suc k) d (omega arith)) g in omega arith
+    by Exit f g rest = let ne = g 0 (record_of b q) (omega arith) in let h = rest (omega arith) f (λ k d l. g (suc k) d (omega arith)) in omega arith
 
 -- ---- a plan
 
 module _ (n lots : ℕ) where
-  planned_here : (b : ℕ) (q : Point) (qs : List Point) → b ≡ n → planned b n lots (q ∷ qs) ≡ with_lots lots q ∷ planned (suc b) n lots qs
-  planned_here b q qs e = ap (λ t. cond t (with_lots lots q) q ∷ planned (suc b) n lots qs) (eq-eqb b n e)
-
-  planned_later : (b : ℕ) (q : Point) (qs : List Point) → b < n → planned b n lots (q ∷ qs) ≡ q ∷ planned (suc b) n lots qs
-  planned_later b q qs l = ap (λ t. cond t (with_lots lots q) q ∷ planned (suc b) n lots qs) (let z : eqb b n ≡ false = grind (arith, nat_tests) in z)
-
-  planned_past : (b : ℕ) (qs : List Point) → n < b → planned b n lots qs ≡ qs
-  planned_past b [] l = refl
-  planned_past b (q ∷ qs) l = ap (λ t. cond t (with_lots lots q) q ∷ planned (suc b) n lots qs) (let z : eqb b n ≡ false = grind (arith, nat_tests) in z) ∙ ap (λ l'. q ∷ l') (planned_past (suc b) qs (omega arith))
-
   -- the side's records
   pub records_planned : (b : ℕ) (s : Side) (qs : List Point) (i : ℕ) → i < length (records_from b s qs) → (get_or (records_from b s qs) i blank).number ≡ n → set (records_from b s qs) i (relotted (get_or (records_from b s qs) i blank) lots) ≡ records_from b s (planned b n lots qs)
   records_planned b s [] i l e = absurd (omega arith)
@@ -86,17 +59,17 @@ module _ (n lots : ℕ) where
     where
       by : (t : Bool) → same_side s q.side ≡ t → (j : ℕ) → j < length (cond t (record_of b q ∷ records_from (suc b) s qs) (records_from (suc b) s qs)) → (get_or (cond t (record_of b q ∷ records_from (suc b) s qs) (records_from (suc b) s qs)) j blank).number ≡ n → ((k : ℕ) → k < length (records_from (suc b) s qs) → (get_or (records_from (suc b) s qs) k blank).number ≡ n → set (records_from (suc b) s qs) k (relotted (get_or (records_from (suc b) s qs) k blank) lots) ≡ records_from (suc b) s (planned (suc b) n lots qs)) → set (cond t (record_of b q ∷ records_from (suc b) s qs) (records_from (suc b) s qs)) j (relotted (get_or (cond t (record_of b q ∷ records_from (suc b) s qs) (records_from (suc b) s qs)) j blank) lots) ≡ records_from b s (planned b n lots (q ∷ qs))
       by true c zero m f rest =
-          sym (ap (records_from b s) (planned_here b q qs f)
+          sym (ap (records_from b s) (planned_here n lots b q qs f)
           ∙ ap (λ t. cond t (record_of b (with_lots lots q) ∷ records_from (suc b) s (planned (suc b) n lots qs)) (records_from (suc b) s (planned (suc b) n lots qs))) c
-          ∙ ap (λ l'. record_of b (with_lots lots q) ∷ records_from (suc b) s l') (planned_past (suc b) qs (omega arith)))
+          ∙ ap (λ l'. record_of b (with_lots lots q) ∷ records_from (suc b) s l') (planned_past n lots (suc b) qs (omega arith)))
       by true c (suc j) m f rest =
           let o = number_from (suc b) s qs j blank (omega arith) in
-          sym (ap (records_from b s) (planned_later b q qs (omega (arith, o, f)))
+          sym (ap (records_from b s) (planned_later n lots b q qs (omega (arith, o, f)))
           ∙ ap (λ t. cond t (record_of b q ∷ records_from (suc b) s (planned (suc b) n lots qs)) (records_from (suc b) s (planned (suc b) n lots qs))) c
           ∙ ap (λ l'. record_of b q ∷ l') (sym (rest j (omega arith) f)))
       by false c j m f rest =
           let o = number_from (suc b) s qs j blank m in
-          sym (ap (records_from b s) (planned_later b q qs (omega (arith, o, f)))
+          sym (ap (records_from b s) (planned_later n lots b q qs (omega (arith, o, f)))
           ∙ ap (λ t. cond t (record_of b q ∷ records_from (suc b) s (planned (suc b) n lots qs)) (records_from (suc b) s (planned (suc b) n lots qs))) c
           ∙ sym (rest j m f))
 
@@ -106,10 +79,10 @@ module _ (n lots : ℕ) where
   records_still b u (x ∷ qs) zero q e f c =
       let g : x ≡ q = cc in
       let d : same_side u x.side ≡ false = ap (λ (z : Point). same_side u z.side) g ∙ c in
-      ap (records_from b u) (planned_here b x qs (omega arith))
+      ap (records_from b u) (planned_here n lots b x qs (omega arith))
       ∙ ap (λ t. cond t (record_of b (with_lots lots x) ∷ records_from (suc b) u (planned (suc b) n lots qs)) (records_from (suc b) u (planned (suc b) n lots qs))) d
-      ∙ ap (records_from (suc b) u) (planned_past (suc b) qs (omega arith))
+      ∙ ap (records_from (suc b) u) (planned_past n lots (suc b) qs (omega arith))
       ∙ ap (λ t. cond t (record_of b x ∷ records_from (suc b) u qs) (records_from (suc b) u qs)) (sym d)
   records_still b u (x ∷ qs) (suc k) q e f c =
-      ap (records_from b u) (planned_later b x qs (omega arith))
+      ap (records_from b u) (planned_later n lots b x qs (omega arith))
       ∙ ap (λ l. cond (same_side u x.side) (record_of b x ∷ l) l) (records_still (suc b) u qs k q (omega arith) f c)

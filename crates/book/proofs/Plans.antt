@@ -1,6 +1,7 @@
 -- What a plan finds in a table, and what it leaves.
 use Rattle.std.proofs.Common.{◌≡◌, ℕ, ◌+◌, ◌-◌, ◌<◌, ◌≤◌, false, length, get_or, set, Some, None, sym, refl, ap, ◌∙◌, subst, arith}
-use Rattle.std.specs.List.{slice_get, AllByRecursion}
+use Rattle.std.specs.List.{slice_get, All}
+use Rattle.std.proofs.lemmas.Option.{slice_get_within}
 use Rattle.terms.specs.declared.points.Side.{Side}
 use Rattle.terms.specs.declared.points.Side.TheVariants.{Entry, Exit}
 use Rattle.terms.specs.declared.measures.Lots.{Lots}
@@ -9,13 +10,15 @@ use Rattle.rules.specs.Limits.{most_lots}
 use Rattle.rules.specs.Points.{Point, Plain, same_side, opposite, on_side, lots_of}
 use Rattle.rules.specs.Plain.{planned, Overplanned, after}
 use Rattle.book.specs.declared.record.PointRecord.{PointRecord}
+use Rattle.book.specs.declared.row.Row.{Row}
 use Rattle.book.specs.declared.table.PointTable.{PointTable}
 use Rattle.book.specs.Records.{record_with, record_of, records_from, record_lots, relotted, blank, Place}
 use Rattle.book.specs.Shows.{held_in, row_of, Shows}
-use Rattle.book.specs.Steps.{Located, Rewritten, replanned}
+use Rattle.book.specs.Rows.{with_row}
+use Rattle.book.specs.Steps.{Located, replanned}
 use Rattle.book.proofs.Sums.{sum_of_set, sum_of_at}
 use Rattle.book.proofs.Records.{lots_records}
-use Rattle.book.proofs.Places.{Standing, standing, absent, nth_below, records_planned, records_still}
+use Rattle.book.proofs.Places.{Standing, standing, absent, records_planned, records_still}
 use Rattle.book.proofs.Showing.{shows_points}
 
 other_side_lem : (s : Side) → same_side (opposite s) s ≡ false
@@ -39,8 +42,8 @@ module _ (t : PointTable) (p : Plain) (sh : Shows t p) where
   pub past : (n : ℕ) → Located t n None → length p.points ≤ n
   past n l =
       let a = absent 0 n p.points (omega arith)
-      (subst (AllByRecursion (λ r. r.number ≡ n → ⊥)) (sh.sides Entry).records (l Entry))
-      (subst (AllByRecursion (λ r. r.number ≡ n → ⊥)) (sh.sides Exit).records (l Exit)) in
+      (subst (All (λ r. r.number ≡ n → ⊥)) (sh.sides Entry).records (l Entry))
+      (subst (All (λ r. r.number ≡ n → ⊥)) (sh.sides Exit).records (l Exit)) in
       omega arith
 
   module _ (s : Side) (i n : ℕ) (place : Place (held_in (row_of t s)) n (Some i)) where
@@ -60,7 +63,7 @@ module _ (t : PointTable) (p : Plain) (sh : Shows t p) where
     found_record = ap (λ rs. get_or rs i blank) (sh.sides s).records ∙ stands.is
 
     pub known : length p.points ≤ n → ⊥
-    known l = let h = nth_below p.points n stands.point found_point in omega arith
+    known l = let h = slice_get_within p.points n stands.point found_point in omega arith
 
     module _ (lots : Lots) where
       replanned_is : replanned t s i lots.0 ≡ records_from 0 s (planned 0 n lots.0 p.points)
@@ -81,9 +84,9 @@ module _ (t : PointTable) (p : Plain) (sh : Shows t p) where
           let k = replanned_lots in
           omega arith
 
-      pub shows_planned : (t' : PointTable) → Rewritten t s (replanned t s i lots.0) t' → Shows t' (after p (Plan n lots))
-      shows_planned t' w =
-          shows_points t t' s _ p (planned 0 n lots.0 p.points) w replanned_is
+      pub shows_planned : (row : Row) → held_in row ≡ replanned t s i lots.0 → row.relief ≡ (row_of t s).relief → Shows (with_row t s row) (after p (Plan n lots))
+      shows_planned row h r =
+          shows_points t s row p (planned 0 n lots.0 p.points) (h ∙ replanned_is) r
           (sym (records_still n lots.0 0 (opposite s) p.points stands.index stands.point stands.number stands.there (ap (same_side (opposite s)) stands.side ∙ other_side_lem s))) sh
 
     -- what a getter sees of it

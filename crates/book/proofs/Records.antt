@@ -1,17 +1,9 @@
 -- The records of a row, and how they follow the points of a plain book.
-use Rattle.std.proofs.Common.{◌≡◌, ℕ, zero, suc, ◌+◌, Bool, true, false, cond, List, [], ◌∷◌, ◌++◌, length, take, set, refl, ap, ◌∙◌, arith}
+use Rattle.std.proofs.Common.{◌≡◌, ℕ, suc, ◌+◌, Bool, true, false, cond, List, [], ◌∷◌, ◌++◌, length, refl, ap, ◌∙◌, arith}
 use Rattle.terms.specs.declared.points.Side.{Side}
 use Rattle.terms.specs.declared.points.Side.TheVariants.{Entry, Exit}
 use Rattle.rules.specs.Points.{Point, same_side, on_side, lots_of}
 use Rattle.book.specs.Records.{record_of, records_from, record_lots}
-
-pub take_of_set : {X : Type 0} (n : ℕ) (xs : List X) (i : ℕ) (y : X) → take n (set xs i y) ≡ set (take n xs) i y
-take_of_set zero [] i y = refl
-take_of_set (suc n) [] i y = refl
-take_of_set zero (x ∷ xs) zero y = refl
-take_of_set zero (x ∷ xs) (suc i) y = refl
-take_of_set (suc n) (x ∷ xs) zero y = refl
-take_of_set (suc n) (x ∷ xs) (suc i) y = ap (λ l. x ∷ l) (take_of_set n xs i y)
 
 pub length_records : (b : ℕ) (s : Side) (qs : List Point) → length (records_from b s qs) ≡ length (on_side s qs)
 length_records b s [] = refl

@@ -1,38 +1,41 @@
 -- What a relief and a closing leave.
-use Rattle.std.proofs.Common.{◌≡◌, ℕ, Ok, Err, sym, ap, ◌∙◌, subst}
+use Rattle.std.proofs.Common.{◌≡◌, ℕ, true, false, cond, Ok, Err, sym, refl, ap, ◌∙◌, subst}
 use Rattle.terms.specs.declared.points.Side.{Side}
 use Rattle.terms.specs.declared.points.Side.TheVariants.{Entry, Exit}
 use Rattle.terms.specs.declared.faults.BookFault.{BookFault}
 use Rattle.terms.specs.Faults.{book_refusal}
 use Rattle.terms.specs.Refusals.{FirstBroken, NoneBroken}
 use Rattle.network.specs.Net.{Net}
-use Rattle.pricing.specs.declared.amount.Amount.{Amount}
-use Rattle.revenue.specs.declared.carried.Carried.{Carried}
 use Rattle.revenue.specs.declared.figures.Closing.{Closing}
 use Rattle.revenue.specs.declared.figures.Figures.{Figures}
 use Rattle.revenue.specs.Checks.{close_rules}
 use Rattle.revenue.specs.Closings.{closing_of}
 use Rattle.rules.specs.declared.calls.Call.TheVariants.{Relieve, Close}
 use Rattle.rules.specs.declared.calls.Answer.TheVariants.{Closed}
-use Rattle.rules.specs.Points.{Plain, opposite}
+use Rattle.rules.specs.Points.{Plain, same_side, opposite}
 use Rattle.rules.specs.Plain.{Handles, refused, accepted, after}
+use Rattle.book.specs.declared.row.Row.{Row}
 use Rattle.book.specs.declared.table.PointTable.{PointTable}
+use Rattle.book.specs.Rows.{with_row}
 use Rattle.book.specs.Shows.{held_in, row_of, ShowsSide, Shows}
+use Rattle.book.proofs.Showing.{shows_with}
 
 -- ---- a relief
 
-sides_relieved : (t t' : PointTable) (p : Plain) (s : Side) (parts : ℕ) → held_in (row_of t' s) ≡ held_in (row_of t s) → (row_of t' s).relief.parts ≡ parts → row_of t' (opposite s) ≡ row_of t (opposite s) → Shows t p → (u : Side) → ShowsSide (row_of t' u) (after p (Relieve s parts)) u
-sides_relieved t t' p Entry parts h r o sh Entry = record { records = h ∙ (sh.sides Entry).records; relief = r }
-sides_relieved t t' p Entry parts h r o sh Exit = subst (λ w. ShowsSide w (after p (Relieve Entry parts)) Exit) (sym o) (record { records = (sh.sides Exit).records; relief = (sh.sides Exit).relief })
-sides_relieved t t' p Exit parts h r o sh Entry = subst (λ w. ShowsSide w (after p (Relieve Exit parts)) Entry) (sym o) (record { records = (sh.sides Entry).records; relief = (sh.sides Entry).relief })
-sides_relieved t t' p Exit parts h r o sh Exit = record { records = h ∙ (sh.sides Exit).records; relief = r }
+same_side_same : (s : Side) → same_side s s ≡ true
+same_side_same Entry = refl
+same_side_same Exit = refl
 
-pub shows_relieved : (t t' : PointTable) (p : Plain) (s : Side) (parts : ℕ) → held_in (row_of t' s) ≡ held_in (row_of t s) → (row_of t' s).relief.parts ≡ parts → row_of t' (opposite s) ≡ row_of t (opposite s) → t'.allowed ≡ t.allowed → t'.carried ≡ t.carried → Shows t p → Shows t' (after p (Relieve s parts))
-shows_relieved t t' p s parts h r o a c sh = record {
-  sides = sides_relieved t t' p s parts h r o sh;
-  allowed = ap (λ (x : Amount). x.dinars.0) a ∙ sh.allowed;
-  carried = ap (λ (x : Carried). x.amount.0) c ∙ sh.carried;
-}
+same_side_opposite : (s : Side) → same_side s (opposite s) ≡ false
+same_side_opposite Entry = refl
+same_side_opposite Exit = refl
+
+pub shows_relieved : (t : PointTable) (s : Side) (row : Row) (p : Plain) (parts : ℕ) → held_in row ≡ held_in (row_of t s) → row.relief.parts ≡ parts → Shows t p → Shows (with_row t s row) (after p (Relieve s parts))
+shows_relieved t s row p parts h r sh =
+    shows_with t s row p (after p (Relieve s parts))
+    (record { records = h ∙ (sh.sides s).records; relief = r ∙ ap (λ b. cond b parts (p.relief s)) (sym (same_side_same s)) })
+    (record { records = (sh.sides (opposite s)).records; relief = (sh.sides (opposite s)).relief ∙ ap (λ b. cond b parts (p.relief (opposite s))) (sym (same_side_opposite s)) })
+    refl refl sh
 
 -- ---- a closing
 

@@ -7,6 +7,7 @@ use Rattle.network.specs.Net.{Net}
 use Rattle.revenue.specs.declared.figures.Closing.{Closing}
 use Rattle.pricing.specs.declared.decision.Draft.{Draft}
 use Rattle.rules.specs.declared.calls.Call.{Call}
+use Rattle.rules.specs.declared.calls.Answer.{Answer}
 use Rattle.rules.specs.declared.calls.Answer.TheVariants.{Opened, Done, Closed, Drawn}
 use Rattle.rules.specs.Points.{Plain}
 use Rattle.rules.specs.Plain.{Outcome, checks, Handles}
@@ -27,19 +28,20 @@ abbrev pub Checked : {T : Type 0} → Net → PointTable → Call → Result T B
 Checked net t c (Ok x) = (p : Plain) → Shows t p → NoneBroken (checks net p c)
 Checked net t c (Err f) = (p : Plain) → Shows t p → FirstBroken (checks net p c) (book_refusal f)
 
--- what each call comes back with, as the outcome of a call
+-- what a call comes back with, as the outcome of a call
+abbrev pub outcome : {T : Type 0} → (T → Answer) → Result T BookFault → Outcome
+outcome answer (Ok x) = Ok (answer x)
+outcome answer (Err f) = Err f
+
+-- and that of each call
 abbrev pub opened : Result ℕ BookFault → Outcome
-opened (Ok n) = Ok (Opened n)
-opened (Err f) = Err f
+opened r = outcome Opened r
 
 abbrev pub done : Result (Unit {0}) BookFault → Outcome
-done (Ok _) = Ok Done
-done (Err f) = Err f
+done r = outcome (λ _. Done) r
 
 abbrev pub closed : Result Closing BookFault → Outcome
-closed (Ok c) = Ok (Closed c)
-closed (Err f) = Err f
+closed r = outcome Closed r
 
 abbrev pub drawn : Result Draft BookFault → Outcome
-drawn (Ok d) = Ok (Drawn d.figures)
-drawn (Err f) = Err f
+drawn r = outcome (λ d. Drawn d.figures) r

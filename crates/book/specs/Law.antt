@@ -11,10 +11,11 @@ use Rattle.network.specs.Rules.{Made}
 use Rattle.rules.specs.declared.calls.Call.{Call}
 use Rattle.rules.specs.Points.{Plain}
 use Rattle.rules.specs.Plain.{Outcome}
-use Rattle.rules.specs.Runs.{History, paired}
+use Rattle.rules.specs.Runs.{History, paired, one}
 use Rattle.rules.specs.Promises.{Known}
 use Rattle.book.specs.declared.table.PointTable.{PointTable}
 use Rattle.book.specs.Shows.{Shows}
+use Rattle.book.specs.Follows.{Follows, Kept}
 
 -- The calls with their outcomes lead to a plain book of which all is promised, and this table shows it.
 pub record Stands (net : Net) (h : History) (t : PointTable) : Type 0 where
@@ -24,6 +25,15 @@ pub record Stands (net : Net) (h : History) (t : PointTable) : Type 0 where
 -- Whatever calls led to the table before, they and these lead to the table after.
 abbrev pub Extends : Net → PointTable → History → PointTable → Type 0
 Extends net t more t' = (h : History) → Stands net h t → Stands net (h ++ more) t'
+
+-- What a call keeps that came back with this outcome, on a book with the table before, which it left with the table after.
+pub record Keeps (net : Net) (t : PointTable) (c : Call) (o : Outcome) (t' : PointTable) : Type 0 where
+  -- a refusal leaves the table as it was
+  pub kept : Kept o t t'
+  -- the plain book handles the call with the same outcome
+  pub step : Follows net t c o t'
+  -- whatever calls led to the table before, they and this one lead to the table after
+  pub law : Extends net t (one c o) t'
 
 -- A run of these calls, from the empty book, came back with these outcomes and ended in this table.
 pub record Run (net : Net) (calls : List Call) (outcomes : List Outcome) (t : PointTable) : Type 0 where

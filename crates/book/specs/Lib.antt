@@ -1,6 +1,7 @@
 pub mod Records
 pub mod Shows
 pub mod Steps
+pub mod Rows
 pub mod Passes
 pub mod Follows
 pub mod Figures

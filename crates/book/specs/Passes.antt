@@ -1,33 +1,28 @@
--- What one pass over distances meets, and what checks 4 and 5 say of it.
-use Rattle.std.specs.Prelude.{◌≡◌, ℕ, ◌<◌, Bool, true, false, cond, ◌||◌, List, Some, None, Ok, Err, Option, Result, nat_lt}
-use mathlib.Core.List.{Memᴰ}
-use Rattle.std.specs.List.{AllByRecursion}
+-- What checks 4 and 5 say of a station and the records of the opposite side.
+use Rattle.std.specs.Prelude.{◌≡◌, ℕ, ◌<◌, List, [], ◌∷◌, None, Result}
+use Rattle.std.specs.List.{Any}
 use Rattle.terms.specs.declared.faults.BookFault.{BookFault}
 use Rattle.terms.specs.declared.faults.BookFault.TheVariants.{NoDistance, TooFar}
+use Rattle.terms.specs.Faults.{book_refusal}
+use Rattle.terms.specs.Refusals.{Rule, rule}
 use Rattle.network.specs.Net.{Net}
+use Rattle.pricing.specs.Rules.{Answered}
 use Rattle.rules.specs.Limits.{farthest}
 use Rattle.rules.specs.Weights.{km}
 use Rattle.book.specs.declared.record.PointRecord.{PointRecord}
-use Rattle.book.specs.declared.pass.Pass.{Pass}
 
-abbrev pub unmet : Pass
-unmet = record { lacking = false; far = false }
+-- Some record has no distance to the station.
+abbrev pub Lacks : Net → ℕ → List PointRecord → Type 0
+Lacks net at rs = Any (λ r. net.distance at r.station ≡ None) rs
 
--- one distance more
-abbrev pub met : Pass → Option ℕ → Pass
-met p None = record { lacking = true; far = p.far }
-met p (Some d) = record { lacking = p.lacking; far = p.far || nat_lt farthest d }
+-- Some record lies too far from the station.
+abbrev pub Strays : Net → ℕ → List PointRecord → Type 0
+Strays net at rs = Any (λ r. farthest < km (net.distance at r.station)) rs
 
--- A lacking distance goes before a long one.
-abbrev pub verdict_of : Pass → Result (Unit {0}) BookFault
-verdict_of p = cond p.lacking (Err NoDistance) (cond p.far (Err TooFar) (Ok tt))
+-- the two rules, in the order of the checks
+abbrev pub distance_rules : Net → ℕ → List PointRecord → List Rule
+distance_rules net at rs = rule (book_refusal NoDistance) (Lacks net at rs) ∷ (rule (book_refusal TooFar) (Strays net at rs) ∷ [])
 
--- whether some of these records stand at a station of which P is true
-abbrev pub Finds : (ℕ → Type 0) → List PointRecord → Bool → Type 0
-Finds P rs true = (r : PointRecord) × Memᴰ r rs × P r.station
-Finds P rs false = AllByRecursion (λ r. P r.station → ⊥) rs
-
--- The pass holds what checks 4 and 5 say of these records.
-pub record Met (net : Net) (at : ℕ) (rs : List PointRecord) (p : Pass) : Type 0 where
-  pub lacking : Finds (λ n. net.distance at n ≡ None) rs p.lacking
-  pub far : Finds (λ n. farthest < km (net.distance at n)) rs p.far
+-- The records break neither rule, or are refused by the first that they break.
+abbrev pub Surveyed : Net → ℕ → List PointRecord → Result (Unit {0}) BookFault → Type 0
+Surveyed net at rs r = Answered (distance_rules net at rs) (λ _. Unit {0}) r

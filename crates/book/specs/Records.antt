@@ -1,6 +1,6 @@
 -- The records of a side's points, as a book's table holds them.
 use Rattle.std.specs.Prelude.{◌≡◌, ℕ, suc, ◌<◌, cond, List, [], ◌∷◌, length, Some, None, Option, ◌≢◌, slice_index_or}
-use Rattle.std.specs.List.{AllByRecursion}
+use Rattle.std.specs.List.{All}
 use Rattle.terms.specs.declared.points.Side.{Side}
 use Rattle.terms.specs.declared.points.Kind.{Kind}
 use Rattle.terms.specs.declared.points.Kind.TheVariants.{Transmission}
@@ -36,4 +36,4 @@ record_lots rs = sum_of (λ r. r.lots.0) rs
 -- where the record with this number stands, if anywhere
 abbrev pub Place : List PointRecord → ℕ → Option ℕ → Type 0
 Place rs n (Some i) = (i < length rs) × ((slice_index_or rs i blank).number ≡ n)
-Place rs n None = AllByRecursion (λ r. r.number ≢ n) rs
+Place rs n None = All (λ r. r.number ≢ n) rs

@@ -1,33 +1,40 @@
 // Drawing the six shares and tariffs of the allowed revenue.
 ghost use Rattle.std.specs.Prelude.{◌≡◌};
+ghost use Rattle.book.specs.Shows.{held_in};
+ghost use Rattle.book.specs.Tallies.{record_side_lots};
 ghost use Rattle.book.specs.Follows.{Follows, drawn};
 
+use crate::row::Row;
 use crate::table::PointTable;
 use crate::weighing::{side_lots, six_weights};
 use network::source::Source;
+use pricing::basis::Weights;
 use pricing::decision::{Draft, draw};
 use pricing::plan::SidePlan;
 use rules::calls::Call;
 use terms::faults::BookFault;
 use terms::points::Side;
 
+// What a draw takes of a side, with these weights.
+fn side_plan(side: Side, row: &Row, weights: Weights) -> SidePlan
+    ensures weights { result.weights ≡ weights }
+    ensures lots { result.lots ≡ record_side_lots side (held_in row.now) }
+    ensures relief { result.relief ≡ row.now.relief }
+{
+    SidePlan {
+        weights,
+        lots: side_lots(side, row),
+        relief: row.relief(),
+    }
+}
+
 impl PointTable {
     pub(crate) fn draw<S: Source>(&self, source: &S) -> Result<Draft, BookFault>
         ensures { Follows (S.Source.net source.now) self.now Call.Draw (drawn result) self.now }
     {
-        let entries = self.entries.held();
-        let exits = self.exits.held();
-        let (of_entries, of_exits) = six_weights(source, entries, exits);
-        let entry_plan = SidePlan {
-            weights: of_entries,
-            lots: side_lots(Side::Entry, entries),
-            relief: self.entries.relief(),
-        };
-        let exit_plan = SidePlan {
-            weights: of_exits,
-            lots: side_lots(Side::Exit, exits),
-            relief: self.exits.relief(),
-        };
-        draw(self.allowed, entry_plan, exit_plan)
+        let (of_entries, of_exits) = six_weights(source, &self.entries, &self.exits);
+        let entries = side_plan(Side::Entry, &self.entries, of_entries);
+        let exits = side_plan(Side::Exit, &self.exits, of_exits);
+        draw(self.allowed, entries, exits)
     }
 }

@@ -4,12 +4,11 @@ ghost use Rattle.std.specs.List.{slice_get};
 ghost use Rattle.network.specs.Meanings.{of_trunk};
 ghost use Rattle.network.specs.Trunk.{trunk_net, trunk_rules};
 ghost use Rattle.rules.specs.Points.{on_side, lots_of};
-ghost use Rattle.rules.specs.Runs.{one};
-ghost use Rattle.book.specs.Follows.{Follows, Kept, opened, done, closed, drawn};
+ghost use Rattle.book.specs.Follows.{opened, done, closed, drawn};
 ghost use Rattle.book.specs.Records.{record_lots};
 ghost use Rattle.book.specs.Shows.{held_in, row_of};
 ghost use Rattle.book.specs.Figures.{Sees, Recorded, seen_point};
-ghost use Rattle.book.specs.Law.{Stands, Extends, Run, Founded};
+ghost use Rattle.book.specs.Law.{Stands, Keeps, Run, Founded};
 
 use crate::reading::Point;
 use crate::table::PointTable;
@@ -45,9 +44,7 @@ impl<S: Source> Book<S> {
     // Opens a point, and gives its number: points are numbered from 0 over both sides.
     pub fn open(&mut self, side: Side, kind: Kind, station: u32) -> Result<u32, BookFault>
         ensures same { self.new.source ≡ self.old.source }
-        ensures kept { Kept result self.old.table self.new.table }
-        ensures step { Follows (S.Source.net self.old.source) self.old.table (Call.Open side kind station) (opened result) self.new.table }
-        ensures law { Extends (S.Source.net self.old.source) self.old.table (one (Call.Open side kind station) (opened result)) self.new.table }
+        ensures keeps { Keeps (S.Source.net self.old.source) self.old.table (Call.Open side kind station) (opened result) self.new.table }
     {
         self.table.open(&self.source, side, kind, station)
     }
@@ -55,9 +52,7 @@ impl<S: Source> Book<S> {
     // Plans the lots of a point.
     pub fn plan(&mut self, point: u32, lots: Lots) -> Result<(), BookFault>
         ensures same { self.new.source ≡ self.old.source }
-        ensures kept { Kept result self.old.table self.new.table }
-        ensures step { Follows (S.Source.net self.old.source) self.old.table (Call.Plan point lots) (done result) self.new.table }
-        ensures law { Extends (S.Source.net self.old.source) self.old.table (one (Call.Plan point lots) (done result)) self.new.table }
+        ensures keeps { Keeps (S.Source.net self.old.source) self.old.table (Call.Plan point lots) (done result) self.new.table }
     {
         self.table.plan(point, lots)
     }
@@ -65,9 +60,7 @@ impl<S: Source> Book<S> {
     // Sets the storage relief of a side, in ten-thousandths.
     pub fn relieve(&mut self, side: Side, parts: u32) -> Result<(), BookFault>
         ensures same { self.new.source ≡ self.old.source }
-        ensures kept { Kept result self.old.table self.new.table }
-        ensures step { Follows (S.Source.net self.old.source) self.old.table (Call.Relieve side parts) (done result) self.new.table }
-        ensures law { Extends (S.Source.net self.old.source) self.old.table (one (Call.Relieve side parts) (done result)) self.new.table }
+        ensures keeps { Keeps (S.Source.net self.old.source) self.old.table (Call.Relieve side parts) (done result) self.new.table }
     {
         self.table.relieve(side, parts)
     }
@@ -75,17 +68,14 @@ impl<S: Source> Book<S> {
     // Closes a period on the amount that is carried on to it.
     pub fn close(&mut self, figures: Figures) -> Result<Closing, BookFault>
         ensures same { self.new.source ≡ self.old.source }
-        ensures kept { Kept result self.old.table self.new.table }
-        ensures step { Follows (S.Source.net self.old.source) self.old.table (Call.Close figures) (closed result) self.new.table }
-        ensures law { Extends (S.Source.net self.old.source) self.old.table (one (Call.Close figures) (closed result)) self.new.table }
+        ensures keeps { Keeps (S.Source.net self.old.source) self.old.table (Call.Close figures) (closed result) self.new.table }
     {
         self.table.close(figures)
     }
 
     // Drafts the six shares and tariffs of the allowed revenue. The book stays as it is.
     pub fn draw(&self) -> Result<Draft, BookFault>
-        ensures step { Follows (S.Source.net self.now.source) self.now.table Call.Draw (drawn result) self.now.table }
-        ensures law { Extends (S.Source.net self.now.source) self.now.table (one Call.Draw (drawn result)) self.now.table }
+        ensures { Keeps (S.Source.net self.now.source) self.now.table Call.Draw (drawn result) self.now.table }
     {
         self.table.draw(&self.source)
     }
@@ -93,31 +83,14 @@ impl<S: Source> Book<S> {
     // Any call, with what it comes back with.
     pub fn handle(&mut self, call: Call) -> Result<Answer, BookFault>
         ensures same { self.new.source ≡ self.old.source }
-        ensures kept { Kept result self.old.table self.new.table }
-        ensures step { Follows (S.Source.net self.old.source) self.old.table call result self.new.table }
-        ensures law { Extends (S.Source.net self.old.source) self.old.table (one call result) self.new.table }
+        ensures keeps { Keeps (S.Source.net self.old.source) self.old.table call result self.new.table }
     {
         match call {
-            Call::Open(side, kind, station) => match self.open(side, kind, station) {
-                Ok(number) => Ok(Answer::Opened(number)),
-                Err(fault) => Err(fault),
-            },
-            Call::Plan(point, lots) => match self.plan(point, lots) {
-                Ok(()) => Ok(Answer::Done),
-                Err(fault) => Err(fault),
-            },
-            Call::Relieve(side, parts) => match self.relieve(side, parts) {
-                Ok(()) => Ok(Answer::Done),
-                Err(fault) => Err(fault),
-            },
-            Call::Close(figures) => match self.close(figures) {
-                Ok(closing) => Ok(Answer::Closed(closing)),
-                Err(fault) => Err(fault),
-            },
-            Call::Draw => match self.draw() {
-                Ok(draft) => Ok(Answer::Drawn(draft.figures())),
-                Err(fault) => Err(fault),
-            },
+            Call::Open(side, kind, station) => self.open(side, kind, station).map(Answer::Opened),
+            Call::Plan(point, lots) => self.plan(point, lots).map(|()| Answer::Done),
+            Call::Relieve(side, parts) => self.relieve(side, parts).map(|()| Answer::Done),
+            Call::Close(figures) => self.close(figures).map(Answer::Closed),
+            Call::Draw => self.draw().map(|draft| Answer::Drawn(draft.figures())),
         }
     }
 }

@@ -45,7 +45,7 @@ impl PointTable {
             return Err(BookFault::NoStation);
         }
         let opposite = self.row(other_side(side)).held();
-        survey(source, station, opposite).verdict()
+        survey(source, station, opposite)
     }
 
     // The number of the new point.
@@ -61,15 +61,12 @@ impl PointTable {
     {
         self.check_open(source, side, kind, station)?;
         let number = self.points();
-        self.add(
-            side,
-            PointRecord {
-                number,
-                kind,
-                station,
-                lots: Lots(0),
-            },
-        );
+        self.row_mut(side).push(PointRecord {
+            number,
+            kind,
+            station,
+            lots: Lots(0),
+        });
         Ok(number)
     }
 }

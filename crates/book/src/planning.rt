@@ -17,9 +17,7 @@ impl PointTable {
         ensures checked { (net : Net) → Checked net self.now (Call.Plan point lots) result }
         ensures place { IfOk result (Plannable self.now point lots.0) }
     {
-        let Some((side, at)) = self.locate(point) else {
-            return Err(BookFault::NoPoint);
-        };
+        let (side, at) = self.locate(point).ok_or(BookFault::NoPoint)?;
         let row = self.row(side);
         let others = row.lots().0 - row.held()[at].lots.0;
         if lots.0 > MOST_LOTS - others {
@@ -35,7 +33,7 @@ impl PointTable {
         let (side, at) = self.check_plan(point, lots)?;
         let mut planned = self.row(side).held()[at];
         planned.lots = lots;
-        self.put(side, at, planned);
+        self.row_mut(side).put(at, planned);
         Ok(())
     }
 }

@@ -33,9 +33,7 @@ impl PointTable {
         ensures value { Recorded self.now number result }
         ensures figure { Sees self.now (λ p. seen_point result ≡ slice_get p.points number) }
     {
-        let Some((side, at)) = self.locate(number) else {
-            return None;
-        };
+        let (side, at) = self.locate(number)?;
         let found = self.row(side).held()[at];
         Some(Point {
             side,

@@ -14,13 +14,8 @@ impl PointTable {
         ensures kept { Kept result self.old self.new }
         ensures step { (net : Net) → Follows net self.old (Call.Relieve side parts) (done result) self.new }
     {
-        let Some(relief) = Relief::new(parts) else {
-            return Err(BookFault::ReliefTooHigh);
-        };
-        match side {
-            Side::Entry => self.entries.relieve(relief),
-            Side::Exit => self.exits.relieve(relief),
-        }
+        let relief = Relief::new(parts).ok_or(BookFault::ReliefTooHigh)?;
+        self.row_mut(side).relieve(relief);
         Ok(())
     }
 }

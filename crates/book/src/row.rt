@@ -10,6 +10,7 @@ use pricing::relief::Relief;
 mod methods;
 
 // One side of a book's table. Its open points stand first in `places`, in the order in which they were opened.
+// The places are an array, and not a `Vec`, since no call of a book allocates.
 #[derive(Clone, Copy)]
 pub struct Row {
     places: [PointRecord; MOST_EXITS],

@@ -1,17 +1,14 @@
 // The inner table of a book, and the one place where its points are found and changed.
-ghost use Rattle.std.specs.Prelude.{◌≡◌, ◌<◌, ◌≤◌, length, slice_set};
-ghost use Rattle.terms.specs.declared.points.Side.TheVariants.{Exit};
-ghost use Rattle.rules.specs.Limits.{most_points, most_lots};
+ghost use Rattle.std.specs.Prelude.{◌≡◌};
+ghost use Rattle.std.specs.Borrow.{sem};
 ghost use Rattle.rules.specs.Points.{opposite, empty};
-ghost use Rattle.book.specs.Records.{record_lots};
-ghost use Rattle.book.specs.Shows.{held_in, row_of, Shows};
-ghost use Rattle.book.specs.Steps.{Added, Located, Changed};
+ghost use Rattle.book.specs.Rows.{LendsRow};
+ghost use Rattle.book.specs.Shows.{row_of, Shows};
+ghost use Rattle.book.specs.Steps.{Located};
 
-use crate::record::PointRecord;
 use crate::row::Row;
 use pricing::amount::Amount;
 use revenue::carried::Carried;
-use terms::measures::Dinars;
 use terms::points::Side;
 
 #[derive(Drop)]
@@ -39,7 +36,7 @@ impl PointTable {
         PointTable {
             entries: Row::empty(),
             exits: Row::empty(),
-            allowed: Amount::new(Dinars(0)).unwrap(),
+            allowed: Amount::ZERO,
             carried: Carried::nothing(),
         }
     }
@@ -57,34 +54,18 @@ impl PointTable {
     pub(crate) fn locate(&self, number: u32) -> Option<(Side, usize)>
         ensures { Located self.now number result }
     {
-        if let Some(at) = self.entries.find(number) {
-            return Some((Side::Entry, at));
-        }
-        match self.exits.find(number) {
-            Some(at) => Some((Side::Exit, at)),
-            None => None,
-        }
+        let entry = self.entries.position(number).map(|at| (Side::Entry, at));
+        entry.or_else(|| self.exits.position(number).map(|at| (Side::Exit, at)))
     }
 
-    pub(crate) fn add(&mut self, side: Side, added: PointRecord)
-        requires space { length (held_in (row_of self.old side)) < most_points Exit }
-        requires unplanned { added.lots.0 ≡ 0 }
-        ensures { Added self.old side added self.new }
+    // The row of a side, to be changed.
+    pub(crate) fn row_mut(&mut self, side: Side) -> &mut Row
+        ensures* lends { sem 𝓛 (LendsRow self.entry side result) }
+        ensures row { result.now ≡ row_of self.old side }
     {
         match side {
-            Side::Entry => self.entries.push(added),
-            Side::Exit => self.exits.push(added),
-        }
-    }
-
-    pub(crate) fn put(&mut self, side: Side, at: usize, written: PointRecord)
-        requires within { at < length (held_in (row_of self.old side)) }
-        requires light { record_lots (slice_set (held_in (row_of self.old side)) at written) ≤ most_lots }
-        ensures { Changed self.old side at written self.new }
-    {
-        match side {
-            Side::Entry => self.entries.put(at, written),
-            Side::Exit => self.exits.put(at, written),
+            Side::Entry => &mut self.entries,
+            Side::Exit => &mut self.exits,
         }
     }
 }

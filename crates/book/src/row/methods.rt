@@ -46,16 +46,10 @@ impl Row {
     }
 
     // The place of the open point with this number.
-    pub(crate) fn find(&self, number: u32) -> Option<usize>
+    pub(crate) fn position(&self, number: u32) -> Option<usize>
         ensures { Place (held_in self.now) number result }
     {
-        let points = self.held();
-        for (i, point) in points.iter().enumerate() {
-            if point.number == number {
-                return Some(i);
-            }
-        }
-        None
+        self.held().iter().position(|point| point.number == number)
     }
 
     // The lots of the open points.

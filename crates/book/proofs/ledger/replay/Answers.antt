@@ -30,7 +30,7 @@ loop-call-preserved g c =
       search rules,
       subst (λ os. Stands (net from) (paired (take (i + 1) calls) os) t') (sym c.in_ok-push.ensures.items)
           (stands_more (net from) calls i past (vec_items c.loop-call.outcomes) o t t' c.loop-call-test.true (search rules) inv.2
-          (subst (λ s. Extends (net s) t (one (get_or calls i past) o) t') inv.0 c.handle-outcome.ensures.law)),
+          (subst (λ s. Extends (net s) t (one (get_or calls i past) o) t') inv.0 c.handle-outcome.ensures.keeps.law)),
     )
 
 pub returns : goal.returns

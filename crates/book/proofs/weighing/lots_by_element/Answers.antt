@@ -6,15 +6,12 @@ use Rattle.book.proofs.Sums.{sum_of_take, sum_of_at}
 use Rattle.book.proofs.Tallying.{tally_more, tally_within, within_le}
 use Rattle.book.proofs.weighing.lots_by_element.Goals as goal
 
-pub loop-point-init : goal.loop-point-init
-loop-point-init c = c.nothing-sums.ensures
-
 pub added-sums-requires : goal.added-sums-requires
 added-sums-requires c =
-    let points = c.args.points.now in
+    let points = c.held-points.result.now in
     let i = c.loop-point.point-index in
-    let w : c.loop-point.point-index < length c.args.points.now = search rules in
-    let light = c.requires in
+    let w : c.loop-point.point-index < length c.held-points.result.now = search rules in
+    let light = c.held-points.ensures.light in
     let t = sum_of_take (λ r. r.lots.0) points i in
     let o = sum_of_at (λ r. r.lots.0) points i blank w in
     record {
@@ -24,16 +21,18 @@ added-sums-requires c =
 
 pub loop-point-preserved : goal.loop-point-preserved
 loop-point-preserved c =
-    let points = c.args.points.now in
+    let points = c.held-points.result.now in
     let i = c.loop-point.point-index in
-    let w : c.loop-point.point-index < length c.args.points.now = search rules in
+    let w : c.loop-point.point-index < length c.held-points.result.now = search rules in
     c.added-sums.ensures
     ∙ ap (λ s. plus c.args.side (get_or points i blank).kind s (get_or points i blank).lots.0) c.loop-point.invariant
     ∙ tally_more c.args.side (λ x. x.lots.0) points i blank w
 
 pub returns : goal.returns
 returns c =
-    let points = c.args.points.now in
-    let l : length c.args.points.now ≤ c.loop-point.point-index = search rules in
-    let v = c.loop-point.invariant ∙ ap (tally c.args.side (λ x. x.lots.0)) (take_all c.loop-point.point-index points l) in
-    record { value = v; few = subst (λ s. Within s 40000) (sym v) (within_le _ (record_lots points) 40000 c.requires (tally_within c.args.side (λ x. x.lots.0) points)) }
+    let points = c.held-points.result.now in
+    let l : length c.held-points.result.now ≤ c.loop-point.point-index = search rules in
+    let v = c.loop-point.invariant ∙ ap (tally c.args.side (λ x. x.lots.0)) (take_all c.loop-point.point-index points l) in record {
+      value = v ∙ ap (tally c.args.side (λ x. x.lots.0)) c.held-points.ensures.value;
+      few = subst (λ s. Within s 40000) (sym v) (within_le _ (record_lots points) 40000 c.held-points.ensures.light (tally_within c.args.side (λ x. x.lots.0) points));
+    }

@@ -1,7 +1,8 @@
-use Rattle.std.proofs.Common.{◌+◌, ◌*◌, ◌<◌, ◌≤◌, length, get_or, take, sym, ap, ◌∙◌, subst, arith, rules}
+use Rattle.std.proofs.Common.{◌+◌, ◌*◌, ◌<◌, ◌≤◌, length, get_or, take, sym, refl, ap, ◌∙◌, subst, arith, rules}
 use Rattle.std.proofs.lemmas.List.{take_all}
 use Rattle.terms.specs.declared.points.Side.TheVariants.{Entry, Exit}
 use Rattle.book.specs.Records.{record_lots, blank}
+use Rattle.book.specs.Shows.{held_in}
 use Rattle.book.specs.Tallies.{tally, plus, both, record_reach, record_weights, brought, Within, most_reach}
 use Rattle.book.proofs.Sums.{sum_of_take, sum_of_at, sum_of_more}
 use Rattle.book.proofs.Tallying.{tally_more, within_le, plus_within, none_other, within_none, other_more, times_le}
@@ -9,39 +10,35 @@ use Rattle.book.proofs.weighing.six_weights.Goals as goal
 
 pub loop-entry-init : goal.loop-entry-init
 loop-entry-init g c =
-    let net = g.S.Source.net c.args.source.now in (
-      c.nothing-of_entries.ensures,
-      subst (λ s. Within s 0) (sym c.nothing-of_entries.ensures) within_none,
-      c.nothing-of_exits.ensures ∙ none_other net Exit c.args.exits.now,
-      subst (λ s. Within s 0) (sym c.nothing-of_exits.ensures) within_none,
-    )
+    let net = g.S.Source.net c.args.source.now in
+    (refl, within_none, none_other net Exit (held_in c.args.exits.now), within_none)
 
 pub weigh_against-reach-requires : goal.weigh_against-reach-requires
 weigh_against-reach-requires g c =
-    let entries = c.args.entries.now in
+    let entries = c.held-points.result.now in
     let i = c.loop-entry.entry-index in
-    let w : c.loop-entry.entry-index < length c.args.entries.now = search rules in
-    let h = c.requires.entries in
+    let w : c.loop-entry.entry-index < length c.held-points.result.now = search rules in
+    let h = c.held-points.ensures.light in
     let t = sum_of_take (λ r. r.lots.0) entries i in
     let o = sum_of_at (λ r. r.lots.0) entries i blank w in
-    record { few = within_le _ (most_reach * record_lots (take i entries)) _ (omega (arith, t, h)) c.loop-entry.invariant.3; lots = omega (arith, o, h); light = c.requires.exits }
+    record { few = within_le _ (most_reach * record_lots (take i entries)) _ (omega (arith, t, h)) c.loop-entry.invariant.3; lots = omega (arith, o, h) }
 
 pub overflow_mul-entry : goal.overflow_mul-entry
 overflow_mul-entry g c =
-    let entries = c.args.entries.now in
+    let entries = c.held-points.result.now in
     let i = c.loop-entry.entry-index in
-    let w : c.loop-entry.entry-index < length c.args.entries.now = search rules in
-    let h = c.requires.entries in
+    let w : c.loop-entry.entry-index < length c.held-points.result.now = search rules in
+    let h = c.held-points.ensures.light in
     let o = sum_of_at (λ r. r.lots.0) entries i blank w in
     let q = times_le (get_or entries i blank).lots.0 c.weigh_against-reach.result.0 most_reach c.weigh_against-reach.ensures.short in
     search (rules, q)
 
 pub added-of_entries-requires : goal.added-of_entries-requires
 added-of_entries-requires g c =
-    let entries = c.args.entries.now in
+    let entries = c.held-points.result.now in
     let i = c.loop-entry.entry-index in
-    let w : c.loop-entry.entry-index < length c.args.entries.now = search rules in
-    let h = c.requires.entries in
+    let w : c.loop-entry.entry-index < length c.held-points.result.now = search rules in
+    let h = c.held-points.ensures.light in
     let t = sum_of_take (λ r. r.lots.0) entries i in
     let o = sum_of_at (λ r. r.lots.0) entries i blank w in
     let q = times_le (get_or entries i blank).lots.0 c.weigh_against-reach.result.0 most_reach c.weigh_against-reach.ensures.short in
@@ -50,11 +47,11 @@ added-of_entries-requires g c =
 pub loop-entry-preserved : goal.loop-entry-preserved
 loop-entry-preserved g c =
     let net = g.S.Source.net c.args.source.now in
-    let entries = c.args.entries.now in
-    let exits = c.args.exits.now in
+    let entries = c.held-points.result.now in
+    let exits = (held_in c.args.exits.now) in
     let i = c.loop-entry.entry-index in
-    let e = get_or c.args.entries.now c.loop-entry.entry-index blank in
-    let w : c.loop-entry.entry-index < length c.args.entries.now = search rules in
+    let e = get_or c.held-points.result.now c.loop-entry.entry-index blank in
+    let w : c.loop-entry.entry-index < length c.held-points.result.now = search rules in
     let a = c.weigh_against-reach.ensures in
     let reach = c.weigh_against-reach.result.0 in
     let q = times_le e.lots.0 c.weigh_against-reach.result.0 most_reach a.short in
@@ -72,9 +69,9 @@ loop-entry-preserved g c =
 pub returns : goal.returns
 returns g c =
     let net = g.S.Source.net c.args.source.now in
-    let l : length c.args.entries.now ≤ c.loop-entry.entry-index = search rules in
-    let e = take_all c.loop-entry.entry-index c.args.entries.now l in
+    let l : length c.held-points.result.now ≤ c.loop-entry.entry-index = search rules in
+    let e = take_all c.loop-entry.entry-index c.held-points.result.now l ∙ c.held-points.ensures.value in
     record {
-      entries = c.loop-entry.invariant.0 ∙ ap (λ rs. record_weights net Entry rs c.args.exits.now) e;
-      exits = c.loop-entry.invariant.2 ∙ ap (λ rs. record_weights net Exit c.args.exits.now rs) e;
+      entries = c.loop-entry.invariant.0 ∙ ap (λ rs. record_weights net Entry rs (held_in c.args.exits.now)) e;
+      exits = c.loop-entry.invariant.2 ∙ ap (λ rs. record_weights net Exit (held_in c.args.exits.now) rs) e;
     }

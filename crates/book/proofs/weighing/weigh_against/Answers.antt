@@ -16,12 +16,12 @@ overflow_mul-part g c =
     let net = g.S.Source.net c.args.source.now in
     let lawful = g.met.S.Source.lawful c.args.source.now in
     let from = c.args.from in
-    let exits = c.args.exits.now in
+    let exits = c.held-points.result.now in
     let i = c.loop-exit.exit-index in
-    let w : c.loop-exit.exit-index < length c.args.exits.now = search rules in
+    let w : c.loop-exit.exit-index < length c.held-points.result.now = search rules in
     let d = c.length_of.ensures ∙ ap km c.distance.ensures in
     let x = get_or exits i blank in
-    let p : x.lots.0 * c.length_of.result ≤ most_reach = subst (λ n. x.lots.0 * n ≤ most_reach) (sym d) (load_few net lawful from.station exits i w c.requires.light) in
+    let p : x.lots.0 * c.length_of.result ≤ most_reach = subst (λ n. x.lots.0 * n ≤ most_reach) (sym d) (load_few net lawful from.station exits i w c.held-points.ensures.light) in
     search (rules, p)
 
 pub overflow_add-reach : goal.overflow_add-reach
@@ -29,13 +29,13 @@ overflow_add-reach g c =
     let net = g.S.Source.net c.args.source.now in
     let lawful = g.met.S.Source.lawful c.args.source.now in
     let from = c.args.from in
-    let exits = c.args.exits.now in
+    let exits = c.held-points.result.now in
     let i = c.loop-exit.exit-index in
-    let w : c.loop-exit.exit-index < length c.args.exits.now = search rules in
+    let w : c.loop-exit.exit-index < length c.held-points.result.now = search rules in
     let d = c.length_of.ensures ∙ ap km c.distance.ensures in
     let x = get_or exits i blank in
     let r = ap (λ n. n + x.lots.0 * c.length_of.result) c.loop-exit.invariant.0 ∙ ap (λ n. record_reach net from.station (take i exits) + x.lots.0 * n) d ∙ sum_of_more (record_load net from.station) exits i blank w in
-    let b = reach_few net lawful from.station exits (i + 1) c.requires.light in
+    let b = reach_few net lawful from.station exits (i + 1) c.held-points.ensures.light in
     search (rules, r, b)
 
 pub overflow_mul-from : goal.overflow_mul-from
@@ -43,12 +43,12 @@ overflow_mul-from g c =
     let net = g.S.Source.net c.args.source.now in
     let lawful = g.met.S.Source.lawful c.args.source.now in
     let from = c.args.from in
-    let exits = c.args.exits.now in
+    let exits = c.held-points.result.now in
     let i = c.loop-exit.exit-index in
-    let w : c.loop-exit.exit-index < length c.args.exits.now = search rules in
+    let w : c.loop-exit.exit-index < length c.held-points.result.now = search rules in
     let d = c.length_of.ensures ∙ ap km c.distance.ensures in
     let x = get_or exits i blank in
-    let p : x.lots.0 * c.length_of.result ≤ most_reach = subst (λ n. x.lots.0 * n ≤ most_reach) (sym d) (load_few net lawful from.station exits i w c.requires.light) in
+    let p : x.lots.0 * c.length_of.result ≤ most_reach = subst (λ n. x.lots.0 * n ≤ most_reach) (sym d) (load_few net lawful from.station exits i w c.held-points.ensures.light) in
     let q = times_le from.lots.0 (x.lots.0 * c.length_of.result) most_reach p in
     let l = c.requires.lots in
     search (rules, q)
@@ -58,16 +58,16 @@ added-weights-requires g c =
     let net = g.S.Source.net c.args.source.now in
     let lawful = g.met.S.Source.lawful c.args.source.now in
     let from = c.args.from in
-    let exits = c.args.exits.now in
+    let exits = c.held-points.result.now in
     let i = c.loop-exit.exit-index in
-    let w : c.loop-exit.exit-index < length c.args.exits.now = search rules in
+    let w : c.loop-exit.exit-index < length c.held-points.result.now = search rules in
     let d = c.length_of.ensures ∙ ap km c.distance.ensures in
     let x = get_or exits i blank in
     let l = c.requires.lots in
     let r = c.loop-exit.invariant.0 in
-    let b = reach_few net lawful from.station exits i c.requires.light in
+    let b = reach_few net lawful from.station exits i c.held-points.ensures.light in
     let k = times_le from.lots.0 c.loop-exit.reach most_reach (omega (arith, r, b)) in
-    let p : x.lots.0 * c.length_of.result ≤ most_reach = subst (λ n. x.lots.0 * n ≤ most_reach) (sym d) (load_few net lawful from.station exits i w c.requires.light) in
+    let p : x.lots.0 * c.length_of.result ≤ most_reach = subst (λ n. x.lots.0 * n ≤ most_reach) (sym d) (load_few net lawful from.station exits i w c.held-points.ensures.light) in
     let q = times_le from.lots.0 (x.lots.0 * c.length_of.result) most_reach p in
     record {
       few = within_le _ (heaviest + from.lots.0 * c.loop-exit.reach) _ (omega (arith, k, l)) (c.loop-exit.invariant.2 heaviest c.requires.few);
@@ -79,9 +79,9 @@ loop-exit-preserved g c =
     let net = g.S.Source.net c.args.source.now in
     let lawful = g.met.S.Source.lawful c.args.source.now in
     let from = c.args.from in
-    let exits = c.args.exits.now in
+    let exits = c.held-points.result.now in
     let i = c.loop-exit.exit-index in
-    let w : c.loop-exit.exit-index < length c.args.exits.now = search rules in
+    let w : c.loop-exit.exit-index < length c.held-points.result.now = search rules in
     let d = c.length_of.ensures ∙ ap km c.distance.ensures in
     let x = get_or exits i blank in (
       ap (λ n. n + x.lots.0 * c.length_of.result) c.loop-exit.invariant.0 ∙ ap (λ n. record_reach net from.station (take i exits) + x.lots.0 * n) d ∙ sum_of_more (record_load net from.station) exits i blank w,
@@ -98,11 +98,11 @@ pub returns : goal.returns
 returns g c =
     let net = g.S.Source.net c.args.source.now in
     let from = c.args.from in
-    let exits = c.args.exits.now in
-    let l : length c.args.exits.now ≤ c.loop-exit.exit-index = search rules in
-    let e = take_all c.loop-exit.exit-index exits l in
+    let exits = c.held-points.result.now in
+    let l : length c.held-points.result.now ≤ c.loop-exit.exit-index = search rules in
+    let e = take_all c.loop-exit.exit-index exits l ∙ c.held-points.ensures.value in
     let r = c.loop-exit.invariant.0 in
-    let b = reach_few net (g.met.S.Source.lawful c.args.source.now) from.station exits c.loop-exit.exit-index c.requires.light in
+    let b = reach_few net (g.met.S.Source.lawful c.args.source.now) from.station exits c.loop-exit.exit-index c.held-points.ensures.light in
     record {
       reach = r ∙ ap (record_reach net from.station) e;
       short = omega (arith, r, b);

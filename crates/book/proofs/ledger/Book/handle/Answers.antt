@@ -1,32 +1,26 @@
-use Rattle.std.proofs.Common.{refl}
+use Rattle.std.proofs.Common.{◌≡◌, Err, rules}
+use Rattle.std.specs.Result.{MatchResult, IsOkAnd}
+use Rattle.rules.specs.declared.calls.Answer.TheVariants.{Opened, Done, Closed, Drawn}
+use Rattle.book.proofs.Runs.{answers}
 use Rattle.book.proofs.ledger.Book.handle.Goals as goal
 
-pub returns-in-Ok : goal.returns-in-Ok
-returns-in-Ok g c = let e = c.in-Ok.ensures in rw c.in-Open.is (record { same = e.same; kept = e.kept; step = e.step; law = e.law })
+pub returns-in-Open-clause-keeps : goal.returns-in-Open-clause-keeps
+returns-in-Open-clause-keeps g c = rw (c.in-Open.is, answers Opened c.open.result c.map.result c.map.ensures.cases) c.open.ensures.keeps
 
-pub returns-in-Err : goal.returns-in-Err
-returns-in-Err g c = let e = c.in-Err.ensures in rw c.in-Open.is (record { same = e.same; kept = e.kept; step = e.step; law = e.law })
+pub returns-in-Close-clause-keeps : goal.returns-in-Close-clause-keeps
+returns-in-Close-clause-keeps g c = rw (c.in-Close.is, answers Closed c.close.result c.map-in-Close.result c.map-in-Close.ensures.cases) c.close.ensures.keeps
 
-pub returns-in-Ok-plan : goal.returns-in-Ok-plan
-returns-in-Ok-plan g c = let e = c.in-Ok-plan.ensures in rw c.in-Plan.is (record { same = e.same; kept = e.kept; step = e.step; law = e.law })
+pub returns-in-Plan-clause-keeps : goal.returns-in-Plan-clause-keeps
+returns-in-Plan-clause-keeps g c =
+    let v : MatchResult c.plan.result (λ x. IsOkAnd c.map-in-Plan.result (λ a. a ≡ Done)) (λ e. c.map-in-Plan.result ≡ Err e) = search rules in
+    rw (c.in-Plan.is, answers (λ _. Done) c.plan.result c.map-in-Plan.result v) c.plan.ensures.keeps
 
-pub returns-in-Err-plan : goal.returns-in-Err-plan
-returns-in-Err-plan g c = let e = c.in-Err-plan.ensures in rw c.in-Plan.is (record { same = e.same; kept = e.kept; step = e.step; law = e.law })
+pub returns-in-Relieve-clause-keeps : goal.returns-in-Relieve-clause-keeps
+returns-in-Relieve-clause-keeps g c =
+    let v : MatchResult c.relieve.result (λ x. IsOkAnd c.map-in-Relieve.result (λ a. a ≡ Done)) (λ e. c.map-in-Relieve.result ≡ Err e) = search rules in
+    rw (c.in-Relieve.is, answers (λ _. Done) c.relieve.result c.map-in-Relieve.result v) c.relieve.ensures.keeps
 
-pub returns-in-Ok-relieve : goal.returns-in-Ok-relieve
-returns-in-Ok-relieve g c = let e = c.in-Ok-relieve.ensures in rw c.in-Relieve.is (record { same = e.same; kept = e.kept; step = e.step; law = e.law })
-
-pub returns-in-Err-relieve : goal.returns-in-Err-relieve
-returns-in-Err-relieve g c = let e = c.in-Err-relieve.ensures in rw c.in-Relieve.is (record { same = e.same; kept = e.kept; step = e.step; law = e.law })
-
-pub returns-in-Ok-close : goal.returns-in-Ok-close
-returns-in-Ok-close g c = let e = c.in-Ok-close.ensures in rw c.in-Close.is (record { same = e.same; kept = e.kept; step = e.step; law = e.law })
-
-pub returns-in-Err-close : goal.returns-in-Err-close
-returns-in-Err-close g c = let e = c.in-Err-close.ensures in rw c.in-Close.is (record { same = e.same; kept = e.kept; step = e.step; law = e.law })
-
-pub returns-in-Ok-draw : goal.returns-in-Ok-draw
-returns-in-Ok-draw g c = let e = c.in-Ok-draw.ensures in rw (c.in-Draw.is, c.figures.ensures) (record { same = refl; kept = tt; step = e.step; law = e.law })
-
-pub returns-in-Err-draw : goal.returns-in-Err-draw
-returns-in-Err-draw g c = let e = c.in-Err-draw.ensures in rw c.in-Draw.is (record { same = refl; kept = refl; step = e.step; law = e.law })
+pub returns-in-Draw-clause-keeps : goal.returns-in-Draw-clause-keeps
+returns-in-Draw-clause-keeps g c =
+    let v : MatchResult c.draw.result (λ x. IsOkAnd c.map-in-Draw.result (λ a. a ≡ Drawn x.figures)) (λ e. c.map-in-Draw.result ≡ Err e) = search rules in
+    rw (c.in-Draw.is, answers (λ d. Drawn d.figures) c.draw.result c.map-in-Draw.result v) c.draw.ensures

@@ -1,11 +1,9 @@
-use Rattle.std.proofs.Common.{◌<◌, length, sym, refl, ap, ◌∙◌, subst, inl, inr, arith, rules}
+use Rattle.std.proofs.Common.{◌<◌, length, refl, ap, ◌∙◌, subst, inl, inr, arith, rules}
 use Rattle.rules.specs.Limits.{most_points}
-use Rattle.rules.specs.declared.calls.Call.TheVariants.{Open}
 use Rattle.book.specs.Shows.{row_of, held_in}
-use Rattle.book.specs.Passes.{Met}
-use Rattle.book.specs.Follows.{Checked}
+use Rattle.book.specs.Passes.{Surveyed}
 use Rattle.book.proofs.Showing.{side_count}
-use Rattle.book.proofs.Openings.{kind_kept, checked_pass, made_all, most_le}
+use Rattle.book.proofs.Openings.{kind_kept, checked_survey, made_all, most_le}
 use Rattle.book.proofs.table.PointTable.check_open.Goals as goal
 
 pub returns-then-held-most_points : goal.returns-then-held-most_points
@@ -37,8 +35,8 @@ returns g c =
     let room : length (held_in (row_of t c.args.side)) < most_points c.args.side = omega (arith, e) in
     let there : c.args.station < net.stations = search rules in
     let l = most_le c.args.side in
-    let m = subst (λ rs. Met net c.args.station rs c.survey.result) o c.survey.ensures in
+    let m = subst (λ rs. Surveyed net c.args.station rs c.survey.result) o c.survey.ensures in
     record {
-      checked = subst (Checked net t (Open c.args.side c.args.kind c.args.station)) (sym c.verdict.ensures) (checked_pass net t c.args.side c.args.kind c.args.station (search rules) room there c.survey.result m);
-      space = made_all c.verdict.result (omega (arith, room, l));
+      checked = checked_survey net t c.args.side c.args.kind c.args.station (search rules) room there c.survey.result m;
+      space = made_all c.survey.result (omega (arith, room, l));
     }

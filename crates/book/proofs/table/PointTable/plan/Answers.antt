@@ -1,10 +1,10 @@
-use Rattle.std.proofs.Common.{get_or, set, refl, ap, ◌∙◌, subst}
+use Rattle.std.proofs.Common.{get_or, set, refl, ap, ◌∙◌}
 use Rattle.std.proofs.lemmas.Result.{err_from_is_err_and}
 use Rattle.rules.specs.declared.calls.Call.TheVariants.{Plan}
 use Rattle.rules.specs.Plain.{refused, accepted, after}
+use Rattle.book.specs.declared.row.Row.{Row}
 use Rattle.book.specs.Records.{relotted, blank}
 use Rattle.book.specs.Shows.{held_in, row_of}
-use Rattle.book.specs.Steps.{Rewritten}
 use Rattle.book.proofs.Plans.{shows_planned}
 use Rattle.book.proofs.table.PointTable.plan.Goals as goal
 
@@ -20,12 +20,16 @@ returns c =
     let at = c.in_ok-side.at in
     let found = c.in_ok-side.ensures in
     let e = c.held.ensures.value ∙ ap held_in c.row.ensures in
+    let row = c.row_mut.ensures.row in
     record {
       kept = tt;
       step = λ net p sh. (
         after p (Plan c.args.point c.args.lots),
         accepted (found.checked net p sh),
         shows_planned t p sh side at c.args.point found.place.place c.args.lots c.put.new.self
-            (subst (λ rs. Rewritten t side (set (held_in (row_of t side)) at (relotted (get_or rs at blank) c.args.lots.0)) c.put.new.self) e c.put.ensures),
+            (c.put.ensures.held
+            ∙ ap (λ rs. set rs at (relotted (get_or c.held.result.now at blank) c.args.lots.0)) (ap held_in row)
+            ∙ ap (λ rs. set (held_in (row_of t side)) at (relotted (get_or rs at blank) c.args.lots.0)) e)
+            (c.put.ensures.relief ∙ ap (λ (r : Row). r.relief) row),
       );
     }

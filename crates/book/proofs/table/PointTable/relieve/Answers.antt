@@ -1,36 +1,31 @@
-use Rattle.std.proofs.Common.{refl, ap, ◌∙◌, inl, arith}
-use Rattle.terms.specs.declared.points.Side.TheVariants.{Entry, Exit}
+use Rattle.std.proofs.Common.{◌≡◌, Some, None, ap, ◌∙◌, inl, refl, arith}
+use Rattle.std.proofs.lemmas.Result.{err_from_is_err_and}
+use Rattle.terms.specs.declared.faults.BookFault.TheVariants.{ReliefTooHigh}
 use Rattle.pricing.specs.declared.relief.Relief.{Relief}
 use Rattle.rules.specs.declared.calls.Call.TheVariants.{Relieve}
 use Rattle.rules.specs.Plain.{refused, accepted, after}
+use Rattle.book.specs.Shows.{held_in}
 use Rattle.book.proofs.Settling.{shows_relieved}
 use Rattle.book.proofs.table.PointTable.relieve.Goals as goal
 
-pub returns-in_default : goal.returns-in_default
-returns-in_default c = record { kept = refl; step = λ net p sh. (p, refused (inl (c.in_default.ensures, refl)), sh) }
+pub returns-in_err-relief-clause-step : goal.returns-in_err-relief-clause-step
+returns-in_err-relief-clause-step c =
+    let e = err_from_is_err_and c.from_residual.result c.from_residual.ensures.1 in
+    let v = c.in_err-relief.ensures.value in
+    let w = c.in_err-relief.was in
+    let none : c.new.result ≡ None = grind (arith, v, w) in
+    let told : c.in_err-relief.field-0.0 ≡ ReliefTooHigh = grind (arith, v, w, none) in
+    rw (e.1, e.2, told) (λ net p sh. (p, refused (inl (rw none at c.new.ensures, refl)), sh))
 
-pub returns-in-Entry : goal.returns-in-Entry
-returns-in-Entry c =
-    let e = c.in-Some.ensures in
-    let b = c.in-Some.relief.bounded in
-    record {
-      kept = tt;
-      step = λ net p sh. (
-        after p (Relieve c.args.side c.args.parts),
-        accepted ((λ k. omega (arith, e, b)), tt),
-        rw c.in-Entry.is (shows_relieved c.args.self.now _ p Entry c.args.parts c.relieve.ensures.held (ap (λ (r : Relief). r.parts) c.relieve.ensures.relief ∙ e) refl refl refl sh),
-      );
-    }
-
-pub returns-in-Exit : goal.returns-in-Exit
-returns-in-Exit c =
-    let e = c.in-Some.ensures in
-    let b = c.in-Some.relief.bounded in
-    record {
-      kept = tt;
-      step = λ net p sh. (
-        after p (Relieve c.args.side c.args.parts),
-        accepted ((λ k. omega (arith, e, b)), tt),
-        rw c.in-Exit.is (shows_relieved c.args.self.now _ p Exit c.args.parts c.relieve-in-Exit.ensures.held (ap (λ (r : Relief). r.parts) c.relieve-in-Exit.ensures.relief ∙ e) refl refl refl sh),
-      );
-    }
+pub returns-clause-step : goal.returns-clause-step
+returns-clause-step c =
+    let v = c.in_ok-relief.ensures.value in
+    let w = c.in_ok-relief.was in
+    let some : c.new.result ≡ Some c.in_ok-relief.relief = grind (arith, v, w) in
+    let e = rw some at c.new.ensures in
+    let b = c.in_ok-relief.relief.bounded in
+    λ net p sh. (
+      after p (Relieve c.args.side c.args.parts),
+      accepted ((λ k. omega (arith, e, b)), tt),
+      shows_relieved c.args.self.now c.args.side c.relieve.new.self p c.args.parts (c.relieve.ensures.held ∙ ap held_in c.row_mut.ensures.row) (ap (λ (r : Relief). r.parts) c.relieve.ensures.relief ∙ e) sh,
+    )
