@@ -1,5 +1,5 @@
 -- The exact shares are the amount times the final weighting factors.
-use Rattle.std.proofs.Common.{◌≡◌, ℕ, ◌+◌, ◌-◌, ◌*◌, ◌<◌, ◌≤◌, refl, ap, mul-le-mul, mul-pos, one-mul, arith}
+use Rattle.std.proofs.Common.{◌≡◌, ℕ, ◌+◌, ◌-◌, ◌*◌, ◌<◌, ◌≤◌, refl, ap, mul-pos, one-mul, arith}
 use Rattle.pricing.specs.Limits.{whole_relief}
 use Rattle.pricing.specs.Fractions.{whole, times, Same}
 use Rattle.pricing.specs.Shares.{Basis, weight, others, HasShares}
@@ -8,7 +8,7 @@ use Rattle.pricing.specs.Methodology.{Methodical, final_other}
 use Rattle.pricing.proofs.Nearness.{scale_pos}
 
 storage_equal : (A k s W n : ℕ) → n ≡ k → A * k * s * (1 * (10000 * W)) ≡ A * (n * s) * (10000 * W)
-storage_equal A k s W n e = rw e (omega arith)
+storage_equal A k s W n e = grind arith
 
 -- X is the 10,000 W less k s that the exact share multiplies out, and comes to 10,000 V + r s
 other_equal :
@@ -20,20 +20,16 @@ other_equal A m p s w r k X E V W a b c d e =
     let v : m * W + p * W ≡ V * W = omega (arith, ap (λ y. y * W) b) in
     rw (v, e, x) (omega arith)
 
--- a product of numbers above 0 is above 0
-pos : (a b : ℕ) → 0 < a → 0 < b → 0 < a * b
-pos a b h k = mul-pos h k
-
 module _ (b : Basis) (some : HasShares b) (relieved : b.relief ≤ whole_relief) where
   w_pos : 0 < weight b
   w_pos = omega arith
 
   parts_le : (whole_relief - b.relief) * b.storage ≤ whole_relief * weight b
-  parts_le = mul-le-mul {n₂ = whole_relief} (omega arith) (omega arith)
+  parts_le = grind arith
 
   -- the sum of both others' factors, multiplied out
   sum_pos : 0 < b.main * weight b + b.other * weight b
-  sum_pos = let p = pos (others b) (weight b) some w_pos in omega arith
+  sum_pos = omega (arith, mul-pos some w_pos)
 
   by_factor : (w : ℕ) → Same (exact_other b w) (times (whole b.amount.0) (final_other b w))
   by_factor w =
@@ -41,8 +37,8 @@ module _ (b : Basis) (some : HasShares b) (relieved : b.relief ≤ whole_relief)
       let X = whole_relief * W - (whole_relief - b.relief) * b.storage in
       let x : X + (whole_relief - b.relief) * b.storage ≡ whole_relief * W = omega (arith, parts_le) in
       record {
-        first = pos (exact_storage b).under (others b) (scale_pos b some relieved) some;
-        second = rw one-mul (pos W _ w_pos (pos (whole_relief * W) _ (scale_pos b some relieved) (pos W _ w_pos sum_pos)));
+        first = mul-pos (scale_pos b some relieved) some;
+        second = rw one-mul (mul-pos w_pos (mul-pos (scale_pos b some relieved) (mul-pos w_pos sum_pos)));
         equal =
             other_equal b.amount.0 b.main b.other b.storage w b.relief (whole_relief - b.relief) X
             (b.amount.0 * (exact_storage b).under - (exact_storage b).over) (others b) W

@@ -1,5 +1,5 @@
 -- The shares of a side lie near the exact ones.
-use Rattle.std.proofs.Common.{◌≡◌, ℕ, ◌+◌, ◌-◌, ◌*◌, ◌<◌, ◌≤◌, ap, mul-le-mul_right, mul-le-mul, mul-le-mul_left, mul-lt-mul_of_pos_right, div-mul-le_self, arith}
+use Rattle.std.proofs.Common.{◌≡◌, ℕ, ◌+◌, ◌-◌, ◌*◌, ◌<◌, ◌≤◌, ap, mul-le-mul_right, mul-le-mul_left, mul-lt-mul_of_pos_right, div-mul-le_self, arith}
 use native.Mathlib.Nat.{lt-div-mul-add}
 use Rattle.pricing.specs.Limits.{whole_relief}
 use Rattle.pricing.specs.Fractions.{fraction, Near}
@@ -53,13 +53,10 @@ module _ (b : Basis) (some : HasShares b) (relieved : b.relief ≤ whole_relief)
 
   -- exact storage is no more than the amount
   pub exact_le : (exact_storage b).over ≤ b.amount.0 * (exact_storage b).under
-  exact_le =
-      let a : (whole_relief - b.relief) * b.storage ≤ whole_relief * weight b = mul-le-mul {n₂ = whole_relief} (omega arith) (omega arith) in
-      omega (arith, mul-le-mul_left b.amount.0 a)
+  exact_le = grind arith
 
   pub near_storage : Near (storage_share b) (exact_storage b)
-  near_storage =
-      record { high = let a = above in let d = scale_pos in omega arith; low = let a = below in let d = scale_pos in omega arith }
+  near_storage = record { high = omega (arith, above, scale_pos); low = omega (arith, below, scale_pos) }
 
   -- an element of weight w among the two others
   near_by_weight :

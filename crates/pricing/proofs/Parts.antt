@@ -1,12 +1,11 @@
 -- Laws of parts that are rounded down.
-use Rattle.std.proofs.Common.{◌≡◌, ℕ, ◌+◌, ◌-◌, ◌*◌, ◌/◌, ◌≤◌, mul-le-mul_left, arith}
-use native.Mathlib.Nat.{div-le_of_le-mul}
+use Rattle.std.proofs.Common.{ℕ, ◌+◌, ◌*◌, ◌/◌, ◌≤◌, arith}
 use Rattle.pricing.specs.Limits.{whole_relief}
 use Rattle.pricing.specs.Shares.{Basis, weight, first_storage, released, storage_share, left_over, main_share}
 
 -- a part of a is at most a
 pub part_le : (a w all : ℕ) → w ≤ all → a * w / all ≤ a
-part_le a w all h = div-le_of_le-mul all (omega (arith, mul-le-mul_left a h))
+part_le a w all h = grind arith
 
 pub first_le : (b : Basis) → first_storage b ≤ b.amount.0
 first_le b = part_le b.amount.0 b.storage (weight b) (omega arith)
@@ -19,7 +18,3 @@ storage_le b = omega (arith, first_le b)
 
 pub main_le : (b : Basis) → main_share b ≤ left_over b
 main_le b = part_le (left_over b) b.main (b.main + b.other) (omega arith)
-
--- what was never storage's and what was released are what storage does not keep
-pub left_is : (b : Basis) → b.relief ≤ whole_relief → (b.amount.0 - first_storage b) + released b ≡ left_over b
-left_is b h = omega (arith, first_le b, released_le b h)

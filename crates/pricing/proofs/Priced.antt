@@ -1,6 +1,5 @@
 -- The laws of short prices, in a year of any length.
-use Rattle.std.proofs.Common.{◌≡◌, ℕ, ◌*◌, ◌<◌, inl, inr, mul-le-mul_right, arith}
-use Rattle.std.proofs.lemmas.Bool.{cases_order}
+use Rattle.std.proofs.Common.{◌≡◌, ℕ, ◌*◌, ◌<◌, arith}
 use Rattle.terms.specs.Rounding.{nearest, Within}
 use Rattle.terms.proofs.Halves.{nearest_within}
 use Rattle.pricing.specs.declared.products.Term.{Term}
@@ -12,15 +11,10 @@ use Rattle.pricing.specs.Prices.{PriceLaw}
 
 -- only a whole number lies within half of itself
 within_whole : (t d q : ℕ) → 0 < d → Within (t * d) d q → q ≡ t
-within_whole t d q h w =
-    elim (cases_order q t) [
-      | inl e ↦ e
-      | inr (inl l) ↦ omega (arith, mul-le-mul_right d l, w.low)
-      | inr (inr g) ↦ omega (arith, mul-le-mul_right d g, w.high)
-    ]
+within_whole t d q h w = grind (arith, w.high, w.low)
 
 nearest_whole : (t d : ℕ) → 0 < d → nearest (t * d) d ≡ t
-nearest_whole t d h = within_whole t d (nearest (t * d) d) h (nearest_within (t * d) d h)
+nearest_whole t d h = within_whole t d _ h (nearest_within (t * d) d h)
 
 year_pos : (year : ℕ) (t : Term) → 0 < year → 0 < multiplier_one * year_in year t
 year_pos year Year h = omega arith

@@ -3,7 +3,7 @@ ghost use Rattle.std.specs.Prelude.{◌≡◌, ◌≤◌, MatchOption};
 ghost use Rattle.pricing.specs.Limits.{most_amount, most_tariff};
 ghost use Rattle.pricing.specs.Shares.{basis, others, HasShares};
 ghost use Rattle.pricing.specs.Sides.{base_of};
-ghost use Rattle.pricing.specs.Tariffs.{element_of, side_of, steps_of, highest, SidePromised};
+ghost use Rattle.pricing.specs.Tariffs.{element_of, side_of, steps_of, highest};
 
 use crate::amount::Amount;
 use crate::figures::{ElementFigures, SideFigures, SideLots};
@@ -33,7 +33,6 @@ fn element(share: Dinars<u64>, lots: Lots) -> ElementFigures
 // The shares and tariffs of a side: storage first, then the others with what storage released.
 fn side_figures(side: Sharing, lots: SideLots) -> SideFigures
     ensures value { result ≡ side_of (base_of side) lots }
-    ensures promised { SidePromised (base_of side) lots result }
     ensures bound { highest result ≤ most_tariff }
 {
     let (storage, release) = storage_share(side);
@@ -48,7 +47,7 @@ fn side_figures(side: Sharing, lots: SideLots) -> SideFigures
 impl SidePlan {
     // The side's figures at its half of the allowed revenue, or none where it has no exact shares.
     pub(crate) fn figures(self, half: Amount) -> Option<SideFigures>
-        ensures { let b = basis half.dinars.0 self.weights self.relief.parts in MatchOption result (others b ≡ 0) (λ f. HasShares b × (f ≡ side_of b self.lots) × SidePromised b self.lots f × (highest f ≤ most_tariff)) }
+        ensures { let b = basis half.dinars.0 self.weights self.relief.parts in MatchOption result (others b ≡ 0) (λ f. HasShares b × (f ≡ side_of b self.lots) × (highest f ≤ most_tariff)) }
     {
         Sharing::new(half, self.weights, self.relief).map(|side| side_figures(side, self.lots))
     }
