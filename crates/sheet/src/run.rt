@@ -18,6 +18,7 @@ use revenue::period::close;
 use std::alloc::{AllocError, Global};
 
 // What line `n` comes back with.
+#[tactic(auto, using(crate::proofs::Turns::misread_comes, crate::proofs::Turns::closed_comes))]
 fn close_line(
     heap: Global,
     line: RawLine<'_>,
@@ -73,6 +74,7 @@ fn run_lines(heap: Global, sheet: &[u8]) -> Result<String, AllocError>
 }
 
 // What a sheet prints.
+#[tactic(auto, using(crate::proofs::Outputs::output_fits, crate::proofs::Outputs::output_long))]
 pub fn run_sheet(heap: Global, sheet: &[u8]) -> Result<String, AllocError>
     ensures { IfOk result (λ out. Output sheet.now (string_bytes out)) }
 {
