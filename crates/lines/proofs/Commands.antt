@@ -1,7 +1,7 @@
 -- What the words of a line ask.
 use Rattle.std.proofs.Common.{◌≡◌, ℕ, ◌<◌, ◌≤◌, true, List, [], ◌∷◌, map, length, get_or, drop, Ok, Err, Result, sym, refl, ap, ◌∙◌, arith}
 use Rattle.std.specs.Option.{ok_or}
-use Rattle.std.proofs.lemmas.List.{length-map}
+use Rattle.std.proofs.lemmas.List.{length-map, get_or-map}
 use Rattle.std.proofs.lemmas.Bool.{cond-true, cond-false, eq-eqb, ne_eqb, le-leb}
 use Rattle.revenue.specs.declared.figures.Figures.{Figures}
 use Rattle.lines.specs.declared.faults.SheetFault.{SheetFault}
@@ -45,3 +45,6 @@ module _ (n : ℕ) (l : RawLine) (bytes : Text) (v ws : List Word) (ended : (raw
 
   pub well_read : (c : Command) (r : Result Figures SheetFault) → Ok c ≡ command_of n (map text_of ws) → r ≡ figures_of n c → r ≡ read_close n (raw_of l)
   well_read c r e k = k ∙ ap (λ x. bind x (figures_of n)) e ∙ from_words
+
+pub word_text : (ws : List Word) (i : ℕ) (d : Word) → i < length ws → text_of (get_or ws i d) ≡ get_or (map text_of ws) i []
+word_text ws i d h = sym (get_or-map text_of ws i _ _ h)

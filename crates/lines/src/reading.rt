@@ -2,7 +2,10 @@
 ghost use Rattle.std.specs.Prelude.{◌≡◌, map};
 ghost use Rattle.lines.specs.Closings.{ReadsClosing};
 ghost use Rattle.lines.specs.Meant.{meaning};
-ghost use Rattle.lines.specs.Reading.{figure_word, figure_of, signed_figure_of, closing_of, figures_of, read_close, sheet_fits, DueOrNoMemory};
+ghost use Rattle.std.specs.Option.{ok_or};
+ghost use Rattle.lines.specs.declared.faults.SheetFault.TheVariants.{BadNumber};
+ghost use Rattle.lines.specs.Numbers.{number_of, signed_of};
+ghost use Rattle.lines.specs.Reading.{closing_of, figures_of, read_close, sheet_fits, DueOrNoMemory};
 ghost use Rattle.lines.specs.Seen.{text_of, raw_of};
 
 use crate::faults::SheetFault;
@@ -13,7 +16,6 @@ use crate::words::{Word, words_of};
 use revenue::figures::Figures;
 use revenue::units::{HundredThousandths, HundredthsOfPercent, MegawattHours, ParasPerKwh};
 use std::alloc::Global;
-use terms::faults::ClosingFigure;
 use terms::measures::Dinars;
 
 // The bytes of a sheet.
@@ -31,66 +33,56 @@ pub fn check_sheet(sheet: &[u8]) -> Result<(), SheetFault>
     Ok(())
 }
 
-// The word that writes a figure.
-fn word_of<'a>(words: &[Word<'a>; CLOSING_FIGURES], which: ClosingFigure) -> &'a [u8]
-    ensures { result.now ≡ figure_word (map text_of words.now) which }
+// A figure of line `n`.
+fn figure(word: Word<'_>, n: usize) -> Result<u64, SheetFault>
+    ensures { result ≡ ok_or (number_of (text_of word.entry)) (BadNumber n) }
 {
-    words[which.number() - 1].text
-}
-
-fn figure(
-    words: &[Word<'_>; CLOSING_FIGURES],
-    which: ClosingFigure,
-    n: usize,
-) -> Result<u64, SheetFault>
-    ensures { result ≡ figure_of n (map text_of words.now) which }
-{
-    number(word_of(words, which))
+    number(word.text)
         .map(u64::from)
         .ok_or(SheetFault::BadNumber(n))
 }
 
-fn signed_figure(
-    words: &[Word<'_>; CLOSING_FIGURES],
-    which: ClosingFigure,
-    n: usize,
-) -> Result<i64, SheetFault>
-    ensures { result ≡ signed_figure_of n (map text_of words.now) which }
+// A figure that may bear a minus.
+fn signed_figure(word: Word<'_>, n: usize) -> Result<i64, SheetFault>
+    ensures { result ≡ ok_or (signed_of (text_of word.entry)) (BadNumber n) }
 {
-    signed(word_of(words, which))
+    signed(word.text)
         .map(i64::from)
         .ok_or(SheetFault::BadNumber(n))
 }
 
 // The figures of a closing, read from the left.
+#[tactic(auto, using(crate::proofs::Commands::word_text))]
 fn closing(words: &[Word<'_>; CLOSING_FIGURES], n: usize) -> Result<Figures, SheetFault>
     ensures { result ≡ closing_of n (map text_of words.now) }
 {
-    let operating = figure(words, ClosingFigure::Operating, n)?;
-    let depreciation = figure(words, ClosingFigure::Depreciation, n)?;
-    let assets = figure(words, ClosingFigure::Assets, n)?;
-    let rate = figure(words, ClosingFigure::Rate, n)?;
-    let delivered = figure(words, ClosingFigure::Delivered, n)?;
-    let loss = figure(words, ClosingFigure::Loss, n)?;
-    let price = figure(words, ClosingFigure::GasPrice, n)?;
-    let nonstandard = figure(words, ClosingFigure::NonStandard, n)?;
-    let other = figure(words, ClosingFigure::OtherRevenue, n)?;
-    let justified = figure(words, ClosingFigure::Justified, n)?;
-    let realised = figure(words, ClosingFigure::Realised, n)?;
-    let index = signed_figure(words, ClosingFigure::Index, n)?;
+    let [
+        operating,
+        depreciation,
+        assets,
+        rate,
+        delivered,
+        loss,
+        price,
+        nonstandard,
+        other,
+        justified,
+        realised,
+        index,
+    ] = *words;
     Ok(Figures {
-        operating: Dinars(operating),
-        depreciation: Dinars(depreciation),
-        assets: Dinars(assets),
-        rate: HundredthsOfPercent(rate),
-        delivered: MegawattHours(delivered),
-        loss: HundredThousandths(loss),
-        price: ParasPerKwh(price),
-        nonstandard: Dinars(nonstandard),
-        other: Dinars(other),
-        justified: Dinars(justified),
-        realised: Dinars(realised),
-        index: HundredthsOfPercent(index),
+        operating: Dinars(figure(operating, n)?),
+        depreciation: Dinars(figure(depreciation, n)?),
+        assets: Dinars(figure(assets, n)?),
+        rate: HundredthsOfPercent(figure(rate, n)?),
+        delivered: MegawattHours(figure(delivered, n)?),
+        loss: HundredThousandths(figure(loss, n)?),
+        price: ParasPerKwh(figure(price, n)?),
+        nonstandard: Dinars(figure(nonstandard, n)?),
+        other: Dinars(figure(other, n)?),
+        justified: Dinars(figure(justified, n)?),
+        realised: Dinars(figure(realised, n)?),
+        index: HundredthsOfPercent(signed_figure(index, n)?),
     })
 }
 

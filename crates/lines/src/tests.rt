@@ -46,11 +46,14 @@ fn a_line_feed_ends_a_line_and_bytes_after_the_last_are_one_more(rt: HostRuntime
 
 #[test]
 fn a_sheet_gives_its_lines_in_their_order(rt: HostRuntime) {
-    let mut places = [0; 3];
-    for (place, line) in places.iter_mut().zip(Lines::new(b"ab c\n\nlast")) {
-        *place = line.place();
-    }
-    assert_eq!(rt; places, [0, 5, 6]);
+    let mut lines = Lines::new(b"ab c\n\nlast");
+    let places = [
+        lines.next().map(|line| line.place()),
+        lines.next().map(|line| line.place()),
+        lines.next().map(|line| line.place()),
+        lines.next().map(|line| line.place()),
+    ];
+    assert_eq!(rt; places, [Some(0), Some(5), Some(6), None]);
     assert_eq!(rt;
         [Lines::new(b"ab c\n\nlast").count(), Lines::new(b"").count()],
         [3, 0]

@@ -19,6 +19,7 @@ use std::alloc::{AllocError, Global};
 use terms::faults::Fault;
 
 // What line `n` comes back with.
+#[tactic(auto, using(crate::proofs::Turns::misread_comes, crate::proofs::Turns::closed_comes))]
 fn close_line(
     heap: Global,
     line: RawLine<'_>,
@@ -74,6 +75,7 @@ fn run_lines(heap: Global, sheet: &[u8]) -> Result<String, AllocError>
 }
 
 // What a sheet prints.
+#[tactic(auto, using(crate::proofs::Outputs::output_fits, crate::proofs::Outputs::output_long))]
 pub fn run_sheet(heap: Global, sheet: &[u8]) -> Result<String, AllocError>
     ensures { IfOk result (λ out. Output sheet.now (string_bytes out)) }
 {

@@ -1,4 +1,4 @@
-use Rattle.std.proofs.Common.{◌≡◌, ◌+◌, map, vec_items}
+use Rattle.std.proofs.Common.{◌≡◌, map, vec_items}
 use Rattle.lines.specs.Words.{placed}
 use Rattle.lines.specs.Seen.{seen}
 use Rattle.lines.proofs.Splits.{span}

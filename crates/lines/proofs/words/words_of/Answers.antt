@@ -1,5 +1,5 @@
 use Rattle.std.proofs.lemmas.Result.{IfOk-weaker}
-use Rattle.std.proofs.Common.{◌≡◌, map, IfOk, length, vec_items, sym, refl, ap, subst, arith}
+use Rattle.std.proofs.Common.{◌≡◌, map, IfOk, vec_items, sym, refl, subst}
 use Rattle.lines.specs.Words.{words, placed, WordsOf}
 use Rattle.lines.specs.Seen.{bytes_of, sheet_of, seen}
 use Rattle.lines.proofs.Splits.{words_of}
