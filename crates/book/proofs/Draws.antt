@@ -1,5 +1,6 @@
 -- What is drawn from the records is what the rules define on the points.
-use Rattle.std.proofs.Common.{◌≡◌, ℕ, suc, ◌+◌, ◌*◌, Bool, true, false, cond, List, [], ◌∷◌, Ok, Err, Result, sym, refl, ap, ◌∙◌, subst, arith}
+use Rattle.std.proofs.Common.{◌≡◌, ℕ, suc, ◌+◌, ◌*◌, Bool, true, false, cond, List, [], ◌∷◌, sum_by, Ok, Err, Result, sym, refl, ap, ◌∙◌, subst, arith}
+use Rattle.std.proofs.lemmas.List.Sums.{sum_by-cons}
 use Rattle.terms.specs.declared.points.Side.{Side}
 use Rattle.terms.specs.declared.points.Side.TheVariants.{Entry, Exit}
 use Rattle.terms.specs.declared.points.Kind.{Kind}
@@ -19,7 +20,7 @@ use Rattle.pricing.specs.Drafts.{Drawing, drawing_of, draw_rules, figures_of}
 use Rattle.rules.specs.declared.calls.Call.TheVariants.{Draw}
 use Rattle.rules.specs.declared.calls.Answer.TheVariants.{Drawn}
 use Rattle.rules.specs.Points.{Point, Plain, same_side, opposite, on_side}
-use Rattle.rules.specs.Weights.{main_kind, other_kind, same_kind, sum_of, sum_by, km, weight_of, lots_in, weights_of, side_lots, half_of, drawing}
+use Rattle.rules.specs.Weights.{main_kind, other_kind, same_kind, sum_of_kind, km, weight_of, lots_in, weights_of, side_lots, half_of, drawing}
 use Rattle.rules.specs.Plain.{Handles, refused, accepted}
 use Rattle.book.specs.declared.record.PointRecord.{PointRecord}
 use Rattle.book.specs.declared.table.PointTable.{PointTable}
@@ -28,20 +29,20 @@ use Rattle.book.specs.Shows.{held_in, row_of, Shows}
 use Rattle.book.specs.Tallies.{record_reach, record_weights, record_side_lots}
 use Rattle.book.specs.Follows.{drawn}
 
-sum_of_records : (f : PointRecord → ℕ) (g : Point → ℕ) → ((n : ℕ) (q : Point) → f (record_of n q) ≡ g q) → (b : ℕ) (s : Side) (qs : List Point) → sum_of f (records_from b s qs) ≡ sum_of g (on_side s qs)
-sum_of_records f g same b s [] = refl
-sum_of_records f g same b s (q ∷ qs) = by (same_side s q.side) (sum_of_records f g same (suc b) s qs)
+sum_by_records : (f : PointRecord → ℕ) (g : Point → ℕ) → ((n : ℕ) (q : Point) → f (record_of n q) ≡ g q) → (b : ℕ) (s : Side) (qs : List Point) → sum_by f (records_from b s qs) ≡ sum_by g (on_side s qs)
+sum_by_records f g same b s [] = refl
+sum_by_records f g same b s (q ∷ qs) = by (same_side s q.side) (sum_by_records f g same (suc b) s qs)
   where
-    by : (t : Bool) → sum_of f (records_from (suc b) s qs) ≡ sum_of g (on_side s qs) → sum_of f (cond t (record_of b q ∷ records_from (suc b) s qs) (records_from (suc b) s qs)) ≡ sum_of g (cond t (q ∷ on_side s qs) (on_side s qs))
-    by true e = let h = same b q in omega arith
+    by : (t : Bool) → sum_by f (records_from (suc b) s qs) ≡ sum_by g (on_side s qs) → sum_by f (cond t (record_of b q ∷ records_from (suc b) s qs) (records_from (suc b) s qs)) ≡ sum_by g (cond t (q ∷ on_side s qs) (on_side s qs))
+    by true e = omega (arith, sum_by-cons f (record_of b q) (records_from (suc b) s qs), sum_by-cons g q (on_side s qs), same b q, e)
     by false e = e
 
-sum_by_records : (f : PointRecord → ℕ) (g : Point → ℕ) → ((n : ℕ) (q : Point) → f (record_of n q) ≡ g q) → (k : Kind) (b : ℕ) (s : Side) (qs : List Point) → sum_by (λ r. r.kind) f k (records_from b s qs) ≡ sum_by (λ q. q.kind) g k (on_side s qs)
-sum_by_records f g same k b s [] = refl
-sum_by_records f g same k b s (q ∷ qs) = by (same_side s q.side) (sum_by_records f g same k (suc b) s qs)
+sum_of_kind_records : (f : PointRecord → ℕ) (g : Point → ℕ) → ((n : ℕ) (q : Point) → f (record_of n q) ≡ g q) → (k : Kind) (b : ℕ) (s : Side) (qs : List Point) → sum_of_kind (λ r. r.kind) f k (records_from b s qs) ≡ sum_of_kind (λ q. q.kind) g k (on_side s qs)
+sum_of_kind_records f g same k b s [] = refl
+sum_of_kind_records f g same k b s (q ∷ qs) = by (same_side s q.side) (sum_of_kind_records f g same k (suc b) s qs)
   where
-    by : (t : Bool) → sum_by (λ r. r.kind) f k (records_from (suc b) s qs) ≡ sum_by (λ q. q.kind) g k (on_side s qs) → sum_by (λ r. r.kind) f k (cond t (record_of b q ∷ records_from (suc b) s qs) (records_from (suc b) s qs)) ≡ sum_by (λ q. q.kind) g k (cond t (q ∷ on_side s qs) (on_side s qs))
-    by true e = ap (λ n. cond (same_kind k q.kind) n 0 + sum_by (λ r. r.kind) f k (records_from (suc b) s qs)) (same b q) ∙ ap (λ n. cond (same_kind k q.kind) (g q) 0 + n) e
+    by : (t : Bool) → sum_of_kind (λ r. r.kind) f k (records_from (suc b) s qs) ≡ sum_of_kind (λ q. q.kind) g k (on_side s qs) → sum_of_kind (λ r. r.kind) f k (cond t (record_of b q ∷ records_from (suc b) s qs) (records_from (suc b) s qs)) ≡ sum_of_kind (λ q. q.kind) g k (cond t (q ∷ on_side s qs) (on_side s qs))
+    by true e = ap (λ n. cond (same_kind k q.kind) n 0 + sum_of_kind (λ r. r.kind) f k (records_from (suc b) s qs)) (same b q) ∙ ap (λ n. cond (same_kind k q.kind) (g q) 0 + n) e
     by false e = e
 
 abbrev lots : ℕ → ℕ → ℕ → Elements Lots
@@ -57,17 +58,17 @@ same_weights : (a b c a' b' c' : ℕ) → a ≡ a' → b ≡ b' → c ≡ c' →
 same_weights a b c a' b' c' p q r = ap (λ x. weights x b c) p ∙ ap (λ x. weights a' x c) q ∙ ap (λ x. weights a' b' x) r
 
 module _ (net : Net) (t : PointTable) (p : Plain) (sh : Shows t p) where
-  weight_shown : (s : Side) (k : Kind) → sum_by (λ r. r.kind) (λ r. r.lots.0 * record_reach net r.station (held_in (row_of t (opposite s)))) k (held_in (row_of t s)) ≡ weight_of net p.points s k
+  weight_shown : (s : Side) (k : Kind) → sum_of_kind (λ r. r.kind) (λ r. r.lots.0 * record_reach net r.station (held_in (row_of t (opposite s)))) k (held_in (row_of t s)) ≡ weight_of net p.points s k
   weight_shown s k =
-      ap (λ rs. sum_by (λ r. r.kind) (λ r. r.lots.0 * record_reach net r.station rs) k (held_in (row_of t s))) (sh.sides (opposite s)).records
-      ∙ ap (sum_by (λ r. r.kind) (λ r. r.lots.0 * record_reach net r.station (records_from 0 (opposite s) p.points)) k) (sh.sides s).records
-      ∙ sum_by_records _ _ (λ n q. ap (λ m. q.lots * m) (sum_of_records (λ r. r.lots.0 * km (net.distance q.station r.station)) (λ x. x.lots * km (net.distance q.station x.station)) (λ _ _. refl) 0 (opposite s) p.points)) k 0 s p.points
+      ap (λ rs. sum_of_kind (λ r. r.kind) (λ r. r.lots.0 * record_reach net r.station rs) k (held_in (row_of t s))) (sh.sides (opposite s)).records
+      ∙ ap (sum_of_kind (λ r. r.kind) (λ r. r.lots.0 * record_reach net r.station (records_from 0 (opposite s) p.points)) k) (sh.sides s).records
+      ∙ sum_of_kind_records _ _ (λ n q. ap (λ m. q.lots * m) (sum_by_records (λ r. r.lots.0 * km (net.distance q.station r.station)) (λ x. x.lots * km (net.distance q.station x.station)) (λ _ _. refl) 0 (opposite s) p.points)) k 0 s p.points
 
   pub weights_shown : (s : Side) → record_weights net s (held_in (row_of t s)) (held_in (row_of t (opposite s))) ≡ weights_of net p.points s
   weights_shown s = same_weights _ _ _ _ _ _ (weight_shown s (main_kind s)) (weight_shown s (other_kind s)) (weight_shown s Storage)
 
-  lots_by : (s : Side) (k : Kind) → sum_by (λ r. r.kind) (λ r. r.lots.0) k (held_in (row_of t s)) ≡ lots_in p.points s k
-  lots_by s k = ap (sum_by (λ r. r.kind) (λ r. r.lots.0) k) (sh.sides s).records ∙ sum_by_records (λ r. r.lots.0) (λ q. q.lots) (λ _ _. refl) k 0 s p.points
+  lots_by : (s : Side) (k : Kind) → sum_of_kind (λ r. r.kind) (λ r. r.lots.0) k (held_in (row_of t s)) ≡ lots_in p.points s k
+  lots_by s k = ap (sum_of_kind (λ r. r.kind) (λ r. r.lots.0) k) (sh.sides s).records ∙ sum_of_kind_records (λ r. r.lots.0) (λ q. q.lots) (λ _ _. refl) k 0 s p.points
 
   pub lots_shown : (s : Side) → record_side_lots s (held_in (row_of t s)) ≡ side_lots p.points s
   lots_shown s = same_lots _ _ _ _ _ _ (lots_by s (main_kind s)) (lots_by s (other_kind s)) (lots_by s Storage)

@@ -2,6 +2,7 @@
 use Rattle.std.proofs.Common.{◌≡◌, ℕ, ◌+◌, ◌-◌, ◌<◌, ◌≤◌, false, length, get_or, set, Some, None, sym, refl, ap, ◌∙◌, subst, arith}
 use Rattle.std.specs.List.{slice_get, All}
 use Rattle.std.proofs.lemmas.Option.{slice_get_within}
+use Rattle.std.proofs.lemmas.List.Sums.{sum_by-set, get_or-le-sum_by}
 use Rattle.terms.specs.declared.points.Side.{Side}
 use Rattle.terms.specs.declared.points.Side.TheVariants.{Entry, Exit}
 use Rattle.terms.specs.declared.measures.Lots.{Lots}
@@ -16,7 +17,6 @@ use Rattle.book.specs.Records.{record_with, record_of, records_from, record_lots
 use Rattle.book.specs.Shows.{held_in, row_of, Shows}
 use Rattle.book.specs.Rows.{with_row}
 use Rattle.book.specs.Steps.{Located, replanned}
-use Rattle.book.proofs.Sums.{sum_of_set, sum_of_at}
 use Rattle.book.proofs.Records.{lots_records}
 use Rattle.book.proofs.Places.{Standing, standing, absent, records_planned, records_still}
 use Rattle.book.proofs.Showing.{shows_points}
@@ -28,8 +28,8 @@ other_side_lem Exit = refl
 -- the side's lots after a plan, from its lots before and the point's
 pub lots_replanned : (t : PointTable) (s : Side) (i lots old total : ℕ) → i < length (held_in (row_of t s)) → old ≡ (get_or (held_in (row_of t s)) i blank).lots.0 → total ≡ record_lots (held_in (row_of t s)) → record_lots (replanned t s i lots) ≡ (total - old) + lots
 lots_replanned t s i lots old total l o k =
-    let e = sum_of_set (λ r. r.lots.0) (held_in (row_of t s)) i blank (relotted (get_or (held_in (row_of t s)) i blank) lots) l in
-    let a = sum_of_at (λ r. r.lots.0) (held_in (row_of t s)) i blank l in
+    let e = sum_by-set (λ (r : PointRecord). r.lots.0) (held_in (row_of t s)) i (relotted (get_or (held_in (row_of t s)) i blank) lots) blank l in
+    let a = get_or-le-sum_by (λ r. r.lots.0) (held_in (row_of t s)) i blank l in
     omega arith
 
 -- the record at its place, part by part

@@ -1,8 +1,10 @@
 -- The records of a row, and how they follow the points of a plain book.
 use Rattle.std.proofs.Common.{◌≡◌, ℕ, suc, ◌+◌, Bool, true, false, cond, List, [], ◌∷◌, ◌++◌, length, refl, ap, ◌∙◌, arith}
+use Rattle.std.proofs.lemmas.List.Sums.{sum_by-cons}
 use Rattle.terms.specs.declared.points.Side.{Side}
 use Rattle.terms.specs.declared.points.Side.TheVariants.{Entry, Exit}
 use Rattle.rules.specs.Points.{Point, same_side, on_side, lots_of}
+use Rattle.book.specs.declared.record.PointRecord.{PointRecord}
 use Rattle.book.specs.Records.{record_of, records_from, record_lots}
 
 pub length_records : (b : ℕ) (s : Side) (qs : List Point) → length (records_from b s qs) ≡ length (on_side s qs)
@@ -26,7 +28,7 @@ lots_records b s [] = refl
 lots_records b s (q ∷ qs) = by (same_side s q.side) (lots_records (suc b) s qs)
   where
     by : (t : Bool) → record_lots (records_from (suc b) s qs) ≡ lots_of (on_side s qs) → record_lots (cond t (record_of b q ∷ records_from (suc b) s qs) (records_from (suc b) s qs)) ≡ lots_of (cond t (q ∷ on_side s qs) (on_side s qs))
-    by true e = ap (λ n. q.lots + n) e
+    by true e = omega (arith, sum_by-cons (λ (r : PointRecord). r.lots.0) (record_of b q) (records_from (suc b) s qs), sum_by-cons (λ (z : Point). z.lots) q (on_side s qs), e)
     by false e = e
 
 -- a point more

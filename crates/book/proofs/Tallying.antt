@@ -1,6 +1,7 @@
 -- Sums by element, one record at a time, and their bounds.
-use Rattle.std.proofs.Common.{◌≡◌, ℕ, ◌+◌, ◌*◌, ◌<◌, ◌≤◌, Bool, true, false, cond, List, [], ◌∷◌, ◌++◌, length, get_or, take, Some, None, Option, sym, refl, ap, ◌∙◌, mul_comm, mul-le-mul_left, arith}
+use Rattle.std.proofs.Common.{◌≡◌, ℕ, ◌+◌, ◌*◌, ◌<◌, ◌≤◌, Bool, true, false, cond, List, [], ◌∷◌, ◌++◌, length, get_or, take, sum_by, Some, None, Option, sym, refl, ap, ◌∙◌, mul_comm, mul-le-mul_left, arith}
 use Rattle.std.proofs.lemmas.List.{take_more}
+use Rattle.std.proofs.lemmas.List.Sums.{sum_by-cons, sum_by_push, sum_by-take-le, get_or-le-sum_by}
 use Rattle.terms.specs.declared.points.Side.{Side}
 use Rattle.terms.specs.declared.points.Kind.{Kind}
 use Rattle.terms.specs.declared.points.Kind.TheVariants.{Storage}
@@ -8,11 +9,11 @@ use Rattle.network.specs.Limits.{longest}
 use Rattle.network.specs.Net.{Net, Lawful}
 use Rattle.pricing.specs.declared.elements.Elements.{Elements}
 use Rattle.rules.specs.Limits.{most_lots}
-use Rattle.rules.specs.Weights.{main_kind, other_kind, same_kind, sum_of, sum_by, km}
+use Rattle.rules.specs.Weights.{main_kind, other_kind, same_kind, sum_of_kind, km}
 use Rattle.book.specs.declared.record.PointRecord.{PointRecord}
 use Rattle.book.specs.Records.{record_lots, blank}
 use Rattle.book.specs.Tallies.{no_weights, plus, both, tally, record_load, record_reach, record_weights, brought, Within, most_reach}
-use Rattle.book.proofs.Sums.{sum_of_push, sum_of_take, sum_of_at, sum_by_push, sum_by_le}
+use Rattle.book.proofs.Sums.{sum_of_kind_push, sum_of_kind_le}
 
 abbrev weights : ℕ → ℕ → ℕ → Elements ℕ
 weights a b c = record { main = a; other = b; storage = c }
@@ -24,7 +25,7 @@ same_weights a b c a' b' c' p q r = ap (λ x. weights x b c) p ∙ ap (λ x. wei
 
 tally_push : (s : Side) (f : PointRecord → ℕ) (xs : List PointRecord) (x : PointRecord) → plus s x.kind (tally s f xs) (f x) ≡ tally s f (xs ++ (x ∷ []))
 tally_push s f xs x =
-    same_weights _ _ _ _ _ _ (sym (sum_by_push (λ r. r.kind) f (main_kind s) xs x)) (sym (sum_by_push (λ r. r.kind) f (other_kind s) xs x)) (sym (sum_by_push (λ r. r.kind) f Storage xs x))
+    same_weights _ _ _ _ _ _ (sym (sum_of_kind_push (λ r. r.kind) f (main_kind s) xs x)) (sym (sum_of_kind_push (λ r. r.kind) f (other_kind s) xs x)) (sym (sum_of_kind_push (λ r. r.kind) f Storage xs x))
 
 pub tally_more : (s : Side) (f : PointRecord → ℕ) (xs : List PointRecord) (i : ℕ) (d : PointRecord) → i < length xs → plus s (get_or xs i d).kind (tally s f (take i xs)) (f (get_or xs i d)) ≡ tally s f (take (i + 1) xs)
 tally_more s f xs i d l = tally_push s f (take i xs) (get_or xs i d) ∙ ap (tally s f) (sym (take_more xs i d l))
@@ -50,8 +51,8 @@ plus_within s k w n b h = record { main = by (same_kind (main_kind s) k) w.main 
     by true m l = omega arith
     by false m l = omega arith
 
-pub tally_within : (s : Side) (f : PointRecord → ℕ) (xs : List PointRecord) → Within (tally s f xs) (sum_of f xs)
-tally_within s f xs = record { main = sum_by_le (λ r. r.kind) f (main_kind s) xs; other = sum_by_le (λ r. r.kind) f (other_kind s) xs; storage = sum_by_le (λ r. r.kind) f Storage xs }
+pub tally_within : (s : Side) (f : PointRecord → ℕ) (xs : List PointRecord) → Within (tally s f xs) (sum_by f xs)
+tally_within s f xs = record { main = sum_of_kind_le (λ r. r.kind) f (main_kind s) xs; other = sum_of_kind_le (λ r. r.kind) f (other_kind s) xs; storage = sum_of_kind_le (λ r. r.kind) f Storage xs }
 
 pub times_le : (l r m : ℕ) → r ≤ m → l * r ≤ m * l
 times_le l r m h = rw (mul_comm m l) (mul-le-mul_left l h)
@@ -69,14 +70,17 @@ module _ (net : Net) (lawful : Lawful net) (at : ℕ) where
 
   reach_le : (rs : List PointRecord) → record_reach net at rs ≤ longest * record_lots rs
   reach_le [] = omega arith
-  reach_le (r ∷ rs) = let a = load_le r in let b = reach_le rs in omega arith
+  reach_le (r ∷ rs) =
+      let a = load_le r in
+      let b = reach_le rs in
+      omega (arith, sum_by-cons (record_load net at) r rs, sum_by-cons (λ (x : PointRecord). x.lots.0) r rs, a, b)
 
   -- the first records of a side that has no more lots than it may
   pub reach_few : (rs : List PointRecord) (i : ℕ) → record_lots rs ≤ most_lots → record_reach net at (take i rs) ≤ most_reach
-  reach_few rs i h = let a = reach_le (take i rs) in let b = sum_of_take (λ r. r.lots.0) rs i in omega arith
+  reach_few rs i h = let a = reach_le (take i rs) in let b = sum_by-take-le (λ r. r.lots.0) rs i in omega arith
 
   pub load_few : (rs : List PointRecord) (i : ℕ) → i < length rs → record_lots rs ≤ most_lots → record_load net at (get_or rs i blank) ≤ most_reach
-  load_few rs i l h = let a = load_le (get_or rs i blank) in let b = sum_of_at (λ r. r.lots.0) rs i blank l in omega arith
+  load_few rs i l h = let a = load_le (get_or rs i blank) in let b = get_or-le-sum_by (λ r. r.lots.0) rs i blank l in omega arith
 
 -- ---- the other side's weights, with one record more
 
@@ -84,17 +88,17 @@ module _ (net : Net) (lawful : Lawful net) (e : PointRecord) where
   abbrev from : List PointRecord → PointRecord → ℕ
   from es x = x.lots.0 * record_reach net x.station es
 
-  other_push : (k : Kind) (es xs : List PointRecord) → sum_by (λ r. r.kind) (from (es ++ (e ∷ []))) k xs ≡ sum_by (λ r. r.kind) (from es) k xs + sum_by (λ r. r.kind) (brought net e) k xs
+  other_push : (k : Kind) (es xs : List PointRecord) → sum_of_kind (λ r. r.kind) (from (es ++ (e ∷ []))) k xs ≡ sum_of_kind (λ r. r.kind) (from es) k xs + sum_of_kind (λ r. r.kind) (brought net e) k xs
   other_push k es [] = refl
   other_push k es (x ∷ xs) = by (same_kind k x.kind) (other_push k es xs)
     where
       one : from (es ++ (e ∷ [])) x ≡ from es x + brought net e x
       one =
-          let p = sum_of_push (record_load net x.station) es e in
+          let p = sum_by_push (record_load net x.station) es e in
           let q = ap km (lawful.mirror x.station e.station) in
           ap (λ n. x.lots.0 * n) p ∙ ap (λ d. x.lots.0 * (record_reach net x.station es + e.lots.0 * d)) q ∙ omega arith
 
-      by : (t : Bool) → sum_by (λ r. r.kind) (from (es ++ (e ∷ []))) k xs ≡ sum_by (λ r. r.kind) (from es) k xs + sum_by (λ r. r.kind) (brought net e) k xs → cond t (from (es ++ (e ∷ [])) x) 0 + sum_by (λ r. r.kind) (from (es ++ (e ∷ []))) k xs ≡ (cond t (from es x) 0 + sum_by (λ r. r.kind) (from es) k xs) + (cond t (brought net e x) 0 + sum_by (λ r. r.kind) (brought net e) k xs)
+      by : (t : Bool) → sum_of_kind (λ r. r.kind) (from (es ++ (e ∷ []))) k xs ≡ sum_of_kind (λ r. r.kind) (from es) k xs + sum_of_kind (λ r. r.kind) (brought net e) k xs → cond t (from (es ++ (e ∷ [])) x) 0 + sum_of_kind (λ r. r.kind) (from (es ++ (e ∷ []))) k xs ≡ (cond t (from es x) 0 + sum_of_kind (λ r. r.kind) (from es) k xs) + (cond t (brought net e x) 0 + sum_of_kind (λ r. r.kind) (brought net e) k xs)
       by true h = let o = one in omega (arith, o, h)
       by false h = omega (arith, h)
 
@@ -104,11 +108,11 @@ module _ (net : Net) (lawful : Lawful net) (e : PointRecord) where
 pub other_more : (net : Net) (lawful : Lawful net) (s : Side) (xs es : List PointRecord) (i : ℕ) (d : PointRecord) → i < length es → both (record_weights net s xs (take i es)) (tally s (brought net (get_or es i d)) xs) ≡ record_weights net s xs (take (i + 1) es)
 other_more net lawful s xs es i d l = sym (weights_other net lawful (get_or es i d) s xs (take i es)) ∙ ap (record_weights net s xs) (sym (take_more es i d l))
 
-none_by : (net : Net) (k : Kind) (xs : List PointRecord) → 0 ≡ sum_by (λ r. r.kind) (λ r. r.lots.0 * record_reach net r.station []) k xs
+none_by : (net : Net) (k : Kind) (xs : List PointRecord) → 0 ≡ sum_of_kind (λ r. r.kind) (λ r. r.lots.0 * record_reach net r.station []) k xs
 none_by net k [] = refl
 none_by net k (x ∷ xs) = by (same_kind k x.kind) (none_by net k xs)
   where
-    by : (t : Bool) → 0 ≡ sum_by (λ r. r.kind) (λ r. r.lots.0 * record_reach net r.station []) k xs → 0 ≡ cond t (x.lots.0 * 0) 0 + sum_by (λ r. r.kind) (λ r. r.lots.0 * record_reach net r.station []) k xs
+    by : (t : Bool) → 0 ≡ sum_of_kind (λ r. r.kind) (λ r. r.lots.0 * record_reach net r.station []) k xs → 0 ≡ cond t (x.lots.0 * 0) 0 + sum_of_kind (λ r. r.kind) (λ r. r.lots.0 * record_reach net r.station []) k xs
     by true e = omega arith
     by false e = omega arith
 

@@ -1,11 +1,10 @@
 -- The records of a side's points, as a book's table holds them.
-use Rattle.std.specs.Prelude.{◌≡◌, ℕ, suc, ◌<◌, cond, List, [], ◌∷◌, length, Some, None, Option, ◌≢◌, slice_index_or}
+use Rattle.std.specs.Prelude.{◌≡◌, ℕ, suc, ◌<◌, cond, List, [], ◌∷◌, length, Some, None, Option, ◌≢◌, slice_index_or, sum_by}
 use Rattle.std.specs.List.{All}
 use Rattle.terms.specs.declared.points.Side.{Side}
 use Rattle.terms.specs.declared.points.Kind.{Kind}
 use Rattle.terms.specs.declared.points.Kind.TheVariants.{Transmission}
 use Rattle.rules.specs.Points.{Point, same_side}
-use Rattle.rules.specs.Weights.{sum_of}
 use Rattle.book.specs.declared.record.PointRecord.{PointRecord}
 
 -- every record is built here
@@ -31,7 +30,7 @@ records_from b s (q ∷ qs) = cond (same_side s q.side) (record_of b q ∷ recor
 
 -- the lots of records
 abbrev pub record_lots : List PointRecord → ℕ
-record_lots rs = sum_of (λ r. r.lots.0) rs
+record_lots rs = sum_by (λ r. r.lots.0) rs
 
 -- where the record with this number stands, if anywhere
 abbrev pub Place : List PointRecord → ℕ → Option ℕ → Type 0

@@ -1,5 +1,5 @@
 -- Sums over a side's records, by element.
-use Rattle.std.specs.Prelude.{ℕ, ◌+◌, ◌*◌, ◌≤◌, cond, List}
+use Rattle.std.specs.Prelude.{ℕ, ◌+◌, ◌*◌, ◌≤◌, cond, List, sum_by}
 use Rattle.terms.specs.declared.points.Side.{Side}
 use Rattle.terms.specs.declared.points.Kind.{Kind}
 use Rattle.terms.specs.declared.points.Kind.TheVariants.{Storage}
@@ -8,7 +8,7 @@ use Rattle.network.specs.Limits.{longest}
 use Rattle.network.specs.Net.{Net}
 use Rattle.pricing.specs.declared.elements.Elements.{Elements}
 use Rattle.rules.specs.Limits.{most_lots}
-use Rattle.rules.specs.Weights.{main_kind, other_kind, same_kind, sum_of, sum_by, km}
+use Rattle.rules.specs.Weights.{main_kind, other_kind, same_kind, sum_of_kind, km}
 use Rattle.book.specs.declared.record.PointRecord.{PointRecord}
 
 abbrev pub no_weights : Elements ℕ
@@ -29,9 +29,9 @@ both a b = record { main = a.main + b.main; other = a.other + b.other; storage =
 -- the sum of a figure over the records of each element
 abbrev pub tally : Side → (PointRecord → ℕ) → List PointRecord → Elements ℕ
 tally s f rs = record {
-  main = sum_by (λ r. r.kind) f (main_kind s) rs;
-  other = sum_by (λ r. r.kind) f (other_kind s) rs;
-  storage = sum_by (λ r. r.kind) f Storage rs;
+  main = sum_of_kind (λ r. r.kind) f (main_kind s) rs;
+  other = sum_of_kind (λ r. r.kind) f (other_kind s) rs;
+  storage = sum_of_kind (λ r. r.kind) f Storage rs;
 }
 
 -- the lots of a side's elements
@@ -48,7 +48,7 @@ record_load net at r = r.lots.0 * km (net.distance at r.station)
 
 -- the sum, over these records, of lots times distance from a station
 abbrev pub record_reach : Net → ℕ → List PointRecord → ℕ
-record_reach net at rs = sum_of (record_load net at) rs
+record_reach net at rs = sum_by (record_load net at) rs
 
 -- the weights of a side's elements, against the records of the other side
 abbrev pub record_weights : Net → Side → List PointRecord → List PointRecord → Elements ℕ

@@ -1,6 +1,8 @@
 -- However a run goes, no side passes its limits.
 use Rattle.std.proofs.Common.{◌≡◌, ℕ, ◌<◌, ◌≤◌, true, cond, List, [], ◌∷◌, ◌++◌, length, sym, refl, subst, inl, inr, zero-le, arith}
 use Rattle.std.proofs.lemmas.List.{length_push, append-nil}
+use Rattle.std.proofs.lemmas.List.Elements.{filter-append}
+use Rattle.std.proofs.lemmas.List.Sums.{sum_by_push}
 use Rattle.std.proofs.lemmas.Bool.{cond_both, cases_Bool}
 use Rattle.terms.specs.declared.points.Side.{Side}
 use Rattle.terms.specs.Refusals.{NoneBroken}
@@ -13,7 +15,7 @@ use Rattle.rules.specs.Plain.{planned, Overplanned, checks, after}
 use Rattle.rules.specs.Runs.{History, Led}
 use Rattle.rules.specs.Promises.{Bounded}
 use Rattle.rules.proofs.Histories.{always}
-use Rattle.rules.proofs.Sides.{side_is, on_side_append, lots_push, nth_there, planned_length, planned_other}
+use Rattle.rules.proofs.Sides.{side_is, nth_there, planned_length, planned_other}
 
 -- a side's points are few, and so are their lots
 abbrev Holds : Side → List Point → Type 0
@@ -23,9 +25,9 @@ opened :
     (s : Side) (qs : List Point) (q : Point) → q.lots ≡ 0 → (same_side s q.side ≡ true → most_points s ≤ length (on_side s qs) → ⊥) →
     Holds s (on_side s qs) → Holds s (on_side s (qs ++ (q ∷ [])))
 opened s qs q none room h =
-    subst (Holds s) (sym (on_side_append s qs (q ∷ [])))
+    subst (Holds s) (sym (filter-append (λ z. same_side s z.side) qs (q ∷ [])))
     (cond_both (same_side s q.side) (q ∷ []) [] (λ more. Holds s (on_side s qs ++ more))
-    (λ c. let r = room c in (omega (arith, length_push (on_side s qs) q), omega (arith, lots_push (on_side s qs) q)))
+    (λ c. let r = room c in (omega (arith, length_push (on_side s qs) q), omega (arith, sum_by_push (λ (z : Point). z.lots) (on_side s qs) q)))
     (λ c. subst (Holds s) (sym (append-nil (on_side s qs))) h))
 
 replanned :

@@ -13,8 +13,8 @@ use Rattle.pricing.specs.Drafts.{figures_of}
 use Rattle.pricing.proofs.Sides.{side_promised}
 use Rattle.pricing.proofs.Drawn as drawn
 use Rattle.rules.specs.declared.calls.Call.TheVariants.{Draw}
-use Rattle.rules.specs.Points.{Point, Plain, lots_of}
-use Rattle.rules.specs.Weights.{main_kind, other_kind, same_kind, sum_by, reach, side_lots, basis_of, drawing}
+use Rattle.rules.specs.Points.{Point, Plain, opposite, on_side, lots_of}
+use Rattle.rules.specs.Weights.{main_kind, other_kind, same_kind, sum_of_kind, reach, side_lots, basis_of, drawing}
 use Rattle.rules.specs.Plain.{Outcome, Handles, refused, accepted}
 use Rattle.rules.specs.Promises.{Bounded, HasExactShares, side_in, collected, Drafted, Draws, given, no_entry_shares, no_exit_shares, Drawable}
 use Rattle.rules.proofs.Outcomes.{settled}
@@ -31,13 +31,16 @@ idle_one true lots far l w e rest =
 idle_one false lots far l w e rest = omega (arith, rest (omega arith))
 
 idle :
-    (net : Net) (k : Kind) (others own : List Point) → sum_by (λ q. q.kind) (λ q. q.lots) k own ≡ 0 →
-    sum_by (λ q. q.kind) (λ q. q.lots * reach net q.station others) k own ≡ 0
+    (net : Net) (k : Kind) (others own : List Point) → sum_of_kind (λ q. q.kind) (λ q. q.lots) k own ≡ 0 →
+    sum_of_kind (λ q. q.kind) (λ q. q.lots * reach net q.station others) k own ≡ 0
 idle net k others [] e = refl
 idle net k others (q ∷ qs) e = idle_one (same_kind k q.kind) q.lots (reach net q.station others) _ _ e (idle net k others qs)
 
 weighed : (net : Net) (p : Plain) (s : Side) → Weighed (basis_of net p s) (side_lots p.points s)
-weighed net p s = record { main = idle net (main_kind s) _ _; other = idle net (other_kind s) _ _; storage = idle net Storage _ _ }
+weighed net p s =
+    let others = on_side (opposite s) p.points in
+    let own = on_side s p.points in
+    record { main = idle net (main_kind s) others own; other = idle net (other_kind s) others own; storage = idle net Storage others own }
 
 module _ (net : Net) (p : Plain) (fits : Fitting p.points) (bounds : (s : Side) → Bounded p s) where
   sides :

@@ -1,8 +1,9 @@
 -- Every point has a kind of its side, so the three elements of a side have all of its points.
-use Rattle.std.proofs.Common.{◌≡◌, ℕ, ◌+◌, ◌*◌, true, cond, List, [], ◌∷◌, refl, ap, ◌∙◌, subst, inl, inr, arith}
+use Rattle.std.proofs.Common.{◌≡◌, ℕ, ◌+◌, ◌*◌, true, cond, List, [], ◌∷◌, sum_by, refl, ap, ◌∙◌, subst, inl, inr, arith}
 use mathlib.Core.List.Memᴰ
 use mathlib.Core.List.{Memᴰ}
 use Rattle.std.proofs.lemmas.Bool.{false≢true, cases_Bool}
+use Rattle.std.proofs.lemmas.List.Sums.{sum_by-cons}
 use Rattle.terms.specs.declared.points.Side.{Side}
 use Rattle.terms.specs.declared.points.Side.TheVariants.{Entry, Exit}
 use Rattle.terms.specs.declared.points.Kind.{Kind}
@@ -15,12 +16,11 @@ use Rattle.pricing.specs.Tariffs as tariffs
 use Rattle.rules.specs.declared.calls.Call.{Call}
 use Rattle.rules.specs.declared.calls.Call.TheVariants.{Open, Plan, Relieve, Close, Draw}
 use Rattle.rules.specs.Points.{Point, new_point, Plain, opposite, on_side, lots_of}
-use Rattle.rules.specs.Weights.{main_kind, other_kind, same_kind, sum_of, sum_by, reach, side_lots, basis_of}
+use Rattle.rules.specs.Weights.{main_kind, other_kind, same_kind, sum_of_kind, reach, side_lots, basis_of}
 use Rattle.rules.specs.Plain.{checks, after}
 use Rattle.rules.specs.Runs.{History, Led}
 use Rattle.rules.proofs.Histories.{always}
 use Rattle.rules.proofs.Sides.{mem_push, mem_planned, mem_side}
-use Rattle.rules.proofs.Sums.{sum_lots}
 
 -- every point has a kind of its side
 abbrev pub Fitting : List Point → Type 0
@@ -61,14 +61,14 @@ one_kind Exit Interconnector n e = omega arith
 
 -- a figure over the three elements
 abbrev by_kind : (Point → ℕ) → Kind → List Point → ℕ
-by_kind f k qs = sum_by (λ q. q.kind) f k qs
+by_kind f k qs = sum_of_kind (λ q. q.kind) f k qs
 
 kinds_sum :
     (s : Side) (f : Point → ℕ) (own : List Point) → ((q : Point) → Memᴰ q own → of_side s q.kind ≡ true) →
-    by_kind f (main_kind s) own + by_kind f (other_kind s) own + by_kind f Storage own ≡ sum_of f own
+    by_kind f (main_kind s) own + by_kind f (other_kind s) own + by_kind f Storage own ≡ sum_by f own
 kinds_sum s f [] fits = refl
 kinds_sum s f (q ∷ qs) fits =
-    omega (arith, one_kind s q.kind (f q) (fits q (Memᴰ.head refl)), kinds_sum s f qs (λ x m. fits x (Memᴰ.tail m)))
+    omega (arith, sum_by-cons f q qs, one_kind s q.kind (f q) (fits q (Memᴰ.head refl)), kinds_sum s f qs (λ x m. fits x (Memᴰ.tail m)))
 
 module _ (net : Net) (p : Plain) (fits : Fitting p.points) (s : Side) where
   of_its_side : (q : Point) → Memᴰ q (on_side s p.points) → of_side s q.kind ≡ true
@@ -76,9 +76,9 @@ module _ (net : Net) (p : Plain) (fits : Fitting p.points) (s : Side) where
 
   -- a side's weight is that of all its points
   pub weight_is :
-      weight (basis_of net p s) ≡ sum_of (λ q. q.lots * reach net q.station (on_side (opposite s) p.points)) (on_side s p.points)
+      weight (basis_of net p s) ≡ sum_by (λ q. q.lots * reach net q.station (on_side (opposite s) p.points)) (on_side s p.points)
   weight_is = kinds_sum s (λ q. q.lots * reach net q.station (on_side (opposite s) p.points)) (on_side s p.points) of_its_side
 
   -- and so are its lots
   pub planned_is : tariffs.planned (side_lots p.points s) ≡ lots_of (on_side s p.points)
-  planned_is = kinds_sum s (λ q. q.lots) (on_side s p.points) of_its_side ∙ sum_lots (on_side s p.points)
+  planned_is = kinds_sum s (λ q. q.lots) (on_side s p.points) of_its_side

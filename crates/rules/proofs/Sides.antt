@@ -1,8 +1,9 @@
 -- The points of a side, after an opening and after a plan.
-use Rattle.std.proofs.Common.{◌≡◌, ℕ, zero, suc, ◌+◌, ◌<◌, Bool, true, false, cond, eqb, ◌⊎◌, List, [], ◌∷◌, ◌++◌, length, Some, sym, refl, ap, ◌∙◌, subst, inl, inr, arith}
+use Rattle.std.proofs.Common.{◌≡◌, ℕ, zero, suc, ◌+◌, ◌<◌, Bool, true, false, cond, not, eqb, ◌⊎◌, List, [], ◌∷◌, ◌++◌, length, Some, sym, refl, ap, ◌∙◌, subst, inl, inr, arith}
 use mathlib.Core.List.Memᴰ
 use mathlib.Core.List.{Memᴰ}
 use Rattle.std.specs.List.{slice_get}
+use Rattle.std.proofs.lemmas.List.Filters.{sum_by-filter_both}
 use Rattle.std.proofs.lemmas.Bool.{eq-eqb, ne_eqb, cond-false, cond_both}
 use Rattle.terms.specs.declared.points.Side.{Side}
 use Rattle.terms.specs.declared.points.Side.TheVariants.{Entry, Exit}
@@ -16,20 +17,6 @@ side_is Exit Entry e = cc
 side_is Exit Exit e = refl
 
 -- ---- one point more
-
-pub on_side_append : (s : Side) (xs ys : List Point) → on_side s (xs ++ ys) ≡ on_side s xs ++ on_side s ys
-on_side_append s [] ys = refl
-on_side_append s (x ∷ xs) ys = by (same_side s x.side) (on_side_append s xs ys)
-  where
-    by :
-        (t : Bool) → on_side s (xs ++ ys) ≡ on_side s xs ++ on_side s ys →
-        cond t (x ∷ on_side s (xs ++ ys)) (on_side s (xs ++ ys)) ≡ cond t (x ∷ on_side s xs) (on_side s xs) ++ on_side s ys
-    by true e = ap (λ l. x ∷ l) e
-    by false e = e
-
-pub lots_push : (qs : List Point) (q : Point) → lots_of (qs ++ (q ∷ [])) ≡ lots_of qs + q.lots
-lots_push [] q = omega arith
-lots_push (x ∷ qs) q = let e = lots_push qs q in omega arith
 
 pub mem_push : {X : Type 0} (q : X) (xs : List X) (x : X) → Memᴰ q (xs ++ (x ∷ [])) → Memᴰ q xs ⊎ (q ≡ x)
 mem_push q [] x m = elim (Memᴰ.cases_cons m) [ inl e ↦ inr e | inr k ↦ inl k ]
@@ -127,12 +114,8 @@ mem_side s (y ∷ qs) q m =
     (λ c k. let r = mem_side s qs q k in (Memᴰ.tail r.0, r.1))
     m
 
-lots_more :
-    (t : Side) (q : Point) (es xs : List Point) →
-    lots_of (cond (same_side Entry t) (q ∷ es) es) + lots_of (cond (same_side Exit t) (q ∷ xs) xs) ≡ q.lots + (lots_of es + lots_of xs)
-lots_more Entry q es xs = omega arith
-lots_more Exit q es xs = omega arith
+other_side : (q : Point) → same_side Exit q.side ≡ not (same_side Entry q.side)
+other_side q = elim q.side as (λ s. same_side Exit s ≡ not (same_side Entry s)) [ Entry ↦ refl | Exit ↦ refl ]
 
 pub sides_lots : (qs : List Point) → lots_of (on_side Entry qs) + lots_of (on_side Exit qs) ≡ lots_of qs
-sides_lots [] = refl
-sides_lots (q ∷ qs) = lots_more q.side q (on_side Entry qs) (on_side Exit qs) ∙ ap (λ n. q.lots + n) (sides_lots qs)
+sides_lots = sum_by-filter_both _ _ other_side (λ q. q.lots)

@@ -1,5 +1,5 @@
 -- The points of a book, and what a plain book keeps.
-use Rattle.std.specs.Prelude.{ℕ, ◌+◌, Bool, true, false, cond, List, [], ◌∷◌, ℤ, pos}
+use Rattle.std.specs.Prelude.{ℕ, Bool, true, false, List, [], ℤ, pos, filter, sum_by}
 use Rattle.terms.specs.declared.points.Side.{Side}
 use Rattle.terms.specs.declared.points.Side.TheVariants.{Entry, Exit}
 use Rattle.terms.specs.declared.points.Kind.{Kind}
@@ -45,10 +45,8 @@ opposite Exit = Entry
 
 -- the points of one side, in the order of their numbers
 abbrev pub on_side : Side → List Point → List Point
-on_side s [] = []
-on_side s (q ∷ qs) = cond (same_side s q.side) (q ∷ on_side s qs) (on_side s qs)
+on_side s qs = filter (λ q. same_side s q.side) qs
 
 -- the planned lots of points
 abbrev pub lots_of : List Point → ℕ
-lots_of [] = 0
-lots_of (q ∷ qs) = q.lots + lots_of qs
+lots_of qs = sum_by (λ q. q.lots) qs

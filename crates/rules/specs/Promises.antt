@@ -1,5 +1,5 @@
 -- What is promised of a book after any run of calls. Distances, lots and weights are those of the plain book and the source's meaning.
-use Rattle.std.specs.Prelude.{◌≡◌, ℕ, ◌+◌, ◌*◌, ◌<◌, ◌≤◌, List, length, Some, Ok, Err}
+use Rattle.std.specs.Prelude.{◌≡◌, ℕ, ◌+◌, ◌*◌, ◌<◌, ◌≤◌, List, length, Some, Ok, Err, sum_by}
 use mathlib.Core.List.{Memᴰ}
 use Rattle.terms.specs.declared.points.Side.{Side}
 use Rattle.terms.specs.declared.points.Side.TheVariants.{Entry, Exit}
@@ -18,7 +18,7 @@ use Rattle.rules.specs.declared.calls.Call.TheVariants.{Draw}
 use Rattle.rules.specs.declared.calls.Answer.TheVariants.{Drawn}
 use Rattle.rules.specs.Limits.{most_points, most_lots, farthest, whole_relief, most_weight}
 use Rattle.rules.specs.Points.{Point, Plain, opposite, on_side, lots_of}
-use Rattle.rules.specs.Weights.{sum_of, km, reach, point_weight, side_lots, basis_of, drawing}
+use Rattle.rules.specs.Weights.{km, reach, point_weight, side_lots, basis_of, drawing}
 use Rattle.rules.specs.Plain.{Outcome, Handles}
 use Rattle.rules.specs.Runs.{History, Led}
 
@@ -43,7 +43,7 @@ Averaged net points =
 -- the sum, over all pairs of an entry and an exit, of lots times lots times distance
 abbrev pub pairs_weight : Net → List Point → ℕ
 pairs_weight net points =
-    sum_of (λ e. sum_of (λ x. e.lots * x.lots * km (net.distance e.station x.station)) (on_side Exit points)) (on_side Entry points)
+    sum_by (λ e. sum_by (λ x. e.lots * x.lots * km (net.distance e.station x.station)) (on_side Exit points)) (on_side Entry points)
 
 -- The limits that no side passes.
 pub record Bounded (p : Plain) (s : Side) : Type 0 where

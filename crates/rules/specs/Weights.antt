@@ -1,5 +1,5 @@
 -- Weights of points and elements, and what a draw is worked from.
-use Rattle.std.specs.Prelude.{ℕ, ◌+◌, ◌*◌, Bool, true, false, cond, List, [], ◌∷◌, Some, None, Option}
+use Rattle.std.specs.Prelude.{ℕ, ◌+◌, ◌*◌, Bool, true, false, cond, List, [], ◌∷◌, Some, None, Option, sum_by}
 use Rattle.terms.specs.declared.points.Side.{Side}
 use Rattle.terms.specs.declared.points.Side.TheVariants.{Entry, Exit}
 use Rattle.terms.specs.declared.points.Kind.{Kind}
@@ -48,15 +48,10 @@ same_kind Interconnector Storage = false
 same_kind Interconnector Local = false
 same_kind Interconnector Interconnector = true
 
--- the sum of a figure over all
-abbrev pub sum_of : {X : Type 0} → (X → ℕ) → List X → ℕ
-sum_of f [] = 0
-sum_of f (x ∷ xs) = f x + sum_of f xs
-
 -- the sum of a figure over those of one kind
-abbrev pub sum_by : {X : Type 0} → (X → Kind) → (X → ℕ) → Kind → List X → ℕ
-sum_by kind f k [] = 0
-sum_by kind f k (x ∷ xs) = cond (same_kind k (kind x)) (f x) 0 + sum_by kind f k xs
+abbrev pub sum_of_kind : {X : Type 0} → (X → Kind) → (X → ℕ) → Kind → List X → ℕ
+sum_of_kind kind f k [] = 0
+sum_of_kind kind f k (x ∷ xs) = cond (same_kind k (kind x)) (f x) 0 + sum_of_kind kind f k xs
 
 -- the km of a distance; none counts nothing, and no two open points of opposite sides are without
 abbrev pub km : Option ℕ → ℕ
@@ -65,7 +60,7 @@ km (Some d) = d
 
 -- the sum, over these points, of lots times distance from a station
 abbrev pub reach : Net → ℕ → List Point → ℕ
-reach net at qs = sum_of (λ q. q.lots * km (net.distance at q.station)) qs
+reach net at qs = sum_by (λ q. q.lots * km (net.distance at q.station)) qs
 
 -- A point's weight: its lots times the sum, over the points of the opposite side, of lots times distance.
 abbrev pub point_weight : Net → List Point → Point → ℕ
@@ -73,11 +68,11 @@ point_weight net points q = q.lots * reach net q.station (on_side (opposite q.si
 
 -- An element's weight: the sum over its points.
 abbrev pub weight_of : Net → List Point → Side → Kind → ℕ
-weight_of net points s k = sum_by (λ q. q.kind) (λ q. q.lots * reach net q.station (on_side (opposite s) points)) k (on_side s points)
+weight_of net points s k = sum_of_kind (λ q. q.kind) (λ q. q.lots * reach net q.station (on_side (opposite s) points)) k (on_side s points)
 
 -- an element's lots
 abbrev pub lots_in : List Point → Side → Kind → ℕ
-lots_in points s k = sum_by (λ q. q.kind) (λ q. q.lots) k (on_side s points)
+lots_in points s k = sum_of_kind (λ q. q.kind) (λ q. q.lots) k (on_side s points)
 
 -- the weights of a side's three elements
 abbrev pub weights_of : Net → List Point → Side → Elements ℕ

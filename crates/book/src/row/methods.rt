@@ -57,12 +57,7 @@ impl Row {
         ensures value { result.0 ≡ record_lots (held_in self.now) }
         ensures bound { result.0 ≤ most_lots }
     {
-        let points = self.held();
-        let mut sum = 0;
-        for point in points {
-            sum += point.lots.0;
-        }
-        Lots(sum)
+        Lots(self.held().iter().map(|point| point.lots.0).sum())
     }
 
     pub(crate) fn push(&mut self, added: PointRecord)

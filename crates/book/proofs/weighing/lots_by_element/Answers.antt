@@ -1,8 +1,8 @@
 use Rattle.std.proofs.Common.{◌*◌, ◌<◌, ◌≤◌, length, get_or, take, sym, ap, ◌∙◌, subst, arith, rules}
 use Rattle.std.proofs.lemmas.List.{take_all}
+use Rattle.std.proofs.lemmas.List.Sums.{sum_by-take-le, get_or-le-sum_by}
 use Rattle.book.specs.Records.{record_lots, blank}
 use Rattle.book.specs.Tallies.{tally, plus, Within, heaviest}
-use Rattle.book.proofs.Sums.{sum_of_take, sum_of_at}
 use Rattle.book.proofs.Tallying.{tally_more, tally_within, within_le}
 use Rattle.book.proofs.weighing.lots_by_element.Goals as goal
 
@@ -12,8 +12,8 @@ added-sums-requires c =
     let i = c.loop-point.point-index in
     let w : c.loop-point.point-index < length c.held-points.result.now = search rules in
     let light = c.held-points.ensures.light in
-    let t = sum_of_take (λ r. r.lots.0) points i in
-    let o = sum_of_at (λ r. r.lots.0) points i blank w in
+    let t = sum_by-take-le (λ r. r.lots.0) points i in
+    let o = get_or-le-sum_by (λ r. r.lots.0) points i blank w in
     record {
       few = subst (λ s. Within s (2 * heaviest)) (sym c.loop-point.invariant) (within_le _ (record_lots (take i points)) _ (omega (arith, t, light)) (tally_within c.args.side (λ r. r.lots.0) (take i points)));
       small = omega (arith, o, light);

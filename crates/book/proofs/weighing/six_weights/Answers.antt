@@ -1,10 +1,10 @@
 use Rattle.std.proofs.Common.{◌+◌, ◌*◌, ◌<◌, ◌≤◌, length, get_or, take, sym, refl, ap, ◌∙◌, subst, arith, rules}
 use Rattle.std.proofs.lemmas.List.{take_all}
+use Rattle.std.proofs.lemmas.List.Sums.{sum_by-take-le, get_or-le-sum_by, sum_by_more}
 use Rattle.terms.specs.declared.points.Side.TheVariants.{Entry, Exit}
 use Rattle.book.specs.Records.{record_lots, blank}
 use Rattle.book.specs.Shows.{held_in}
 use Rattle.book.specs.Tallies.{tally, plus, both, record_reach, record_weights, brought, Within, most_reach}
-use Rattle.book.proofs.Sums.{sum_of_take, sum_of_at, sum_of_more}
 use Rattle.book.proofs.Tallying.{tally_more, within_le, plus_within, none_other, within_none, other_more, times_le}
 use Rattle.book.proofs.weighing.six_weights.Goals as goal
 
@@ -19,8 +19,8 @@ weigh_against-reach-requires g c =
     let i = c.loop-entry.entry-index in
     let w : c.loop-entry.entry-index < length c.held-points.result.now = search rules in
     let h = c.held-points.ensures.light in
-    let t = sum_of_take (λ r. r.lots.0) entries i in
-    let o = sum_of_at (λ r. r.lots.0) entries i blank w in
+    let t = sum_by-take-le (λ r. r.lots.0) entries i in
+    let o = get_or-le-sum_by (λ r. r.lots.0) entries i blank w in
     record { few = within_le _ (most_reach * record_lots (take i entries)) _ (omega (arith, t, h)) c.loop-entry.invariant.3; lots = omega (arith, o, h) }
 
 pub overflow_mul-entry : goal.overflow_mul-entry
@@ -29,7 +29,7 @@ overflow_mul-entry g c =
     let i = c.loop-entry.entry-index in
     let w : c.loop-entry.entry-index < length c.held-points.result.now = search rules in
     let h = c.held-points.ensures.light in
-    let o = sum_of_at (λ r. r.lots.0) entries i blank w in
+    let o = get_or-le-sum_by (λ r. r.lots.0) entries i blank w in
     let q = times_le (get_or entries i blank).lots.0 c.weigh_against-reach.result.0 most_reach c.weigh_against-reach.ensures.short in
     search (rules, q)
 
@@ -39,8 +39,8 @@ added-of_entries-requires g c =
     let i = c.loop-entry.entry-index in
     let w : c.loop-entry.entry-index < length c.held-points.result.now = search rules in
     let h = c.held-points.ensures.light in
-    let t = sum_of_take (λ r. r.lots.0) entries i in
-    let o = sum_of_at (λ r. r.lots.0) entries i blank w in
+    let t = sum_by-take-le (λ r. r.lots.0) entries i in
+    let o = get_or-le-sum_by (λ r. r.lots.0) entries i blank w in
     let q = times_le (get_or entries i blank).lots.0 c.weigh_against-reach.result.0 most_reach c.weigh_against-reach.ensures.short in
     record { few = within_le _ (most_reach * record_lots (take i entries)) _ (omega (arith, t, h)) c.loop-entry.invariant.1; small = omega (arith, q, o, h) }
 
@@ -55,7 +55,7 @@ loop-entry-preserved g c =
     let a = c.weigh_against-reach.ensures in
     let reach = c.weigh_against-reach.result.0 in
     let q = times_le e.lots.0 c.weigh_against-reach.result.0 most_reach a.short in
-    let m = sum_of_more (λ r. r.lots.0) entries i blank w in (
+    let m = sum_by_more (λ r. r.lots.0) entries i blank w in (
       c.added-of_entries.ensures
           ∙ ap (λ s. plus Entry e.kind s (e.lots.0 * reach)) c.loop-entry.invariant.0
           ∙ ap (λ n. plus Entry e.kind (record_weights net Entry (take i entries) exits) (e.lots.0 * n)) a.reach

@@ -1,10 +1,10 @@
 use Rattle.std.proofs.Common.{◌+◌, ◌*◌, ◌<◌, ◌≤◌, length, get_or, take, sym, refl, ap, ◌∙◌, subst, mul-add, arith, rules}
 use Rattle.std.proofs.lemmas.List.{take_all}
+use Rattle.std.proofs.lemmas.List.Sums.{sum_by_more}
 use Rattle.terms.specs.declared.points.Side.TheVariants.{Exit}
 use Rattle.rules.specs.Weights.{km}
 use Rattle.book.specs.Records.{blank}
 use Rattle.book.specs.Tallies.{tally, plus, both, record_load, record_reach, brought, Within, heaviest, most_reach}
-use Rattle.book.proofs.Sums.{sum_of_more}
 use Rattle.book.proofs.Tallying.{tally_more, within_le, plus_within, plus_both, both_none, load_few, reach_few, times_le}
 use Rattle.book.proofs.weighing.weigh_against.Goals as goal
 
@@ -34,7 +34,7 @@ overflow_add-reach g c =
     let w : c.loop-exit.exit-index < length c.held-points.result.now = search rules in
     let d = c.length_of.ensures ∙ ap km c.distance.ensures in
     let x = get_or exits i blank in
-    let r = ap (λ n. n + x.lots.0 * c.length_of.result) c.loop-exit.invariant.0 ∙ ap (λ n. record_reach net from.station (take i exits) + x.lots.0 * n) d ∙ sum_of_more (record_load net from.station) exits i blank w in
+    let r = ap (λ n. n + x.lots.0 * c.length_of.result) c.loop-exit.invariant.0 ∙ ap (λ n. record_reach net from.station (take i exits) + x.lots.0 * n) d ∙ sym (sum_by_more (record_load net from.station) exits i blank w) in
     let b = reach_few net lawful from.station exits (i + 1) c.held-points.ensures.light in
     search (rules, r, b)
 
@@ -84,7 +84,7 @@ loop-exit-preserved g c =
     let w : c.loop-exit.exit-index < length c.held-points.result.now = search rules in
     let d = c.length_of.ensures ∙ ap km c.distance.ensures in
     let x = get_or exits i blank in (
-      ap (λ n. n + x.lots.0 * c.length_of.result) c.loop-exit.invariant.0 ∙ ap (λ n. record_reach net from.station (take i exits) + x.lots.0 * n) d ∙ sum_of_more (record_load net from.station) exits i blank w,
+      ap (λ n. n + x.lots.0 * c.length_of.result) c.loop-exit.invariant.0 ∙ ap (λ n. record_reach net from.station (take i exits) + x.lots.0 * n) d ∙ sym (sum_by_more (record_load net from.station) exits i blank w),
       c.added-weights.ensures
           ∙ ap (λ s. plus Exit x.kind s (from.lots.0 * (x.lots.0 * c.length_of.result))) c.loop-exit.invariant.1
           ∙ plus_both Exit x.kind c.args.before _ _

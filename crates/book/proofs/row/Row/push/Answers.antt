@@ -1,7 +1,7 @@
 use Rattle.std.proofs.Common.{◌<◌, length, take, refl, ap, arith, rules}
 use Rattle.std.proofs.lemmas.List.{take_more_set, length-take}
+use Rattle.std.proofs.lemmas.List.Sums.{sum_by_push}
 use Rattle.book.specs.Records.{record_lots}
-use Rattle.book.proofs.Sums.{sum_of_push}
 use Rattle.book.proofs.row.Row.push.Goals as goal
 
 pub invariant_of-self : goal.invariant_of-self
@@ -10,7 +10,7 @@ invariant_of-self c =
     let space = simp length-take at c.requires.space in
     let l : row.count < length row.places = search rules in
     let e = ap record_lots (take_more_set row.places row.count c.args.added l) in
-    let a = sum_of_push (λ r. r.lots.0) (take row.count row.places) c.args.added in
+    let a = sum_by_push (λ r. r.lots.0) (take row.count row.places) c.args.added in
     record { fits = omega arith; light = omega (arith, e, a) }
 
 pub returns : goal.returns

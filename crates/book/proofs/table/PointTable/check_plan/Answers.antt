@@ -1,9 +1,9 @@
 use Rattle.std.proofs.Common.{◌≡◌, ◌<◌, length, get_or, Some, None, sym, refl, ap, ◌∙◌, subst, inl, inr, arith}
 use Rattle.std.proofs.lemmas.Result.{err_from_is_err_and}
+use Rattle.std.proofs.lemmas.List.Sums.{get_or-le-sum_by}
 use Rattle.terms.specs.declared.faults.BookFault.TheVariants.{NoPoint}
 use Rattle.book.specs.Records.{record_lots, blank}
 use Rattle.book.specs.Shows.{held_in}
-use Rattle.book.proofs.Sums.{sum_of_at}
 use Rattle.book.proofs.Plans.{past, known, overplanned, not_overplanned, lots_replanned}
 use Rattle.book.proofs.table.PointTable.check_plan.Goals as goal
 
@@ -25,7 +25,7 @@ overflow_sub-others c =
     let h = c.held.ensures.value in
     let e = h ∙ ap held_in c.row-row.ensures in
     let l = subst (λ rs. c.in_ok-side.at < length rs) (sym e) found.0 in
-    let a = sum_of_at (λ r. r.lots.0) c.held.result.now c.in_ok-side.at blank l in
+    let a = get_or-le-sum_by (λ r. r.lots.0) c.held.result.now c.in_ok-side.at blank l in
     omega (arith, a, c.lots.ensures.value, ap record_lots h)
 
 pub returns-then-lots-others-clause-checked : goal.returns-then-lots-others-clause-checked
