@@ -78,7 +78,7 @@ fn divisor(by: u64) -> NonZeroU64
     NonZeroU64::new(by).unwrap()
 }
 
-// a * b / by, to the nearest whole.
+// a * b / by, to the nearest whole. The bounds stand in the clauses: a type for them would be made thrice, for this one use.
 fn scaled(a: u64, b: u64, by: u64) -> u64
     requires few { a ≤ 1000000000000 }
     requires small { b ≤ 10000 }
@@ -94,6 +94,7 @@ impl CheckedFigures {
     pub(crate) fn new(figures: Figures) -> Result<CheckedFigures, BookFault>
         ensures { MatchResult result (λ r. NoneBroken (figure_rules figures) × (r.figures ≡ figures)) (λ e. FirstBroken (figure_rules figures) (book_refusal e)) }
     {
+        // A match, since the value may be made only where no figure is out of its range.
         match first_out_of_range(figures) {
             Some(figure) => Err(BookFault::OutOfRange(figure)),
             None => Ok(CheckedFigures { figures }),
