@@ -9,6 +9,7 @@ use terms::measures::Dinars;
 pub const MOST_AMOUNT: u64 = 10_000_000;
 
 // Money that is no more than a period may be allowed.
+// A type beside `Relief`: unit, width and limit differ, and one generic type of them would be longer than the two.
 #[derive(Clone, Copy, PartialEq, Eq, Debug)]
 pub struct Amount {
     dinars: Dinars<u64>,
