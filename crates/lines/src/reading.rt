@@ -96,6 +96,7 @@ pub fn figures(line: Line<'_>, n: usize) -> Result<Figures, SheetFault>
 }
 
 // The figures of the closing that line `n` asks for.
+#[tactic(auto, using(crate::proofs::Inverse::closing_law))]
 pub fn read_close(heap: Global, line: RawLine<'_>, n: usize) -> Result<Figures, SheetFault>
     ensures due { DueOrNoMemory (read_close n (raw_of line.entry)) result }
     ensures law { ReadsClosing (raw_of line.entry) result }
