@@ -42,7 +42,7 @@ fn figure(word: Word<'_>, n: usize) -> Result<u64, SheetFault>
         .ok_or(SheetFault::BadNumber(n))
 }
 
-// A figure that may bear a minus.
+// A figure that may bear a minus: another reader and another number, which is no plainer as one function with `figure`.
 fn signed_figure(word: Word<'_>, n: usize) -> Result<i64, SheetFault>
     ensures { result ≡ ok_or (signed_of (text_of word.entry)) (BadNumber n) }
 {
