@@ -1,37 +1,16 @@
 -- What the words of a line ask.
-use Rattle.std.proofs.Common.{◌≡◌, ℕ, ◌<◌, ◌≤◌, true, List, [], ◌∷◌, map, length, get_or, drop, Ok, Err, Result, sym, refl, ap, ◌∙◌, arith}
-use Rattle.std.specs.Option.{ok_or}
-use Rattle.std.proofs.lemmas.List.{length-map, get_or-map}
-use Rattle.std.proofs.lemmas.Bool.{cond-true, cond-false, eq-eqb, ne_eqb, le-leb}
+use Rattle.std.proofs.Common.{◌≡◌, ℕ, ◌<◌, ◌≤◌, true, List, [], map, length, get_or, Ok, Err, Result, sym, ap, ◌∙◌, arith}
+use Rattle.std.proofs.lemmas.List.{get_or-map}
+use Rattle.std.proofs.lemmas.Bool.{le-leb}
 use Rattle.revenue.specs.declared.figures.Figures.{Figures}
 use Rattle.lines.specs.declared.faults.SheetFault.{SheetFault}
-use Rattle.lines.specs.declared.faults.SheetFault.TheVariants.{UnknownWord, WordCount}
 use Rattle.lines.specs.declared.raw.RawLine.{RawLine}
-use Rattle.lines.specs.declared.line.Verb.{Verb}
-use Rattle.lines.specs.declared.line.Verb.TheVariants.{Close}
 use Rattle.lines.specs.declared.words.Word.{Word}
 use Rattle.lines.specs.Bytes.{Text}
-use Rattle.lines.specs.Reading.{bind, verb_of, Command, close, asked, command_of, figures_of, close_of, read_close}
+use Rattle.lines.specs.Reading.{bind, Command, command_of, figures_of, close_of, read_close}
 use Rattle.lines.specs.Seen.{bytes_of, raw_of, text_of, seen}
 use Rattle.lines.specs.Words.{words, placed}
 use Rattle.lines.proofs.Places.{texts}
-
-pub close_asked : (n : ℕ) (v : Verb) (ws : List Word) → length ws ≡ 12 → Ok (close (map text_of ws)) ≡ asked n v (map text_of ws)
-close_asked n Close ws h = sym (cond-true _ _ _ (eq-eqb _ _ (length-map ws text_of ∙ h)))
-
-pub close_miscounted : (n : ℕ) (v : Verb) (ws : List Word) → (length ws ≡ 12 → ⊥) → Err (WordCount n) ≡ asked n v (map text_of ws)
-close_miscounted n Close ws h = sym (cond-false _ _ _ (ne_eqb _ _ (λ e. h (sym (length-map ws text_of) ∙ e))))
-
--- what the first word and the rest of a line ask
-pub first_asks : (n : ℕ) (ws rest : List Word) (d : Word) (v : Verb) (r : Result Command SheetFault) → 0 < length ws → Ok v ≡ ok_or (verb_of (text_of (get_or ws 0 d))) (UnknownWord n) → rest ≡ drop 1 ws
-    → r ≡ asked n v (map text_of rest) → r ≡ command_of n (map text_of ws)
-first_asks n [] rest d v r some is left e = absurd (omega arith)
-first_asks n (w ∷ ws) rest d v r some is left e =
-    e ∙ ap (λ l. asked n v (map text_of l)) left ∙ ap (λ o. bind o (λ x. asked n x (map text_of ws))) is
-
-pub none_ask : (n : ℕ) (ws : List Word) → length ws ≡ 0 → command_of n (map text_of ws) ≡ Err (UnknownWord n)
-none_ask n [] h = refl
-none_ask n (w ∷ ws) h = absurd (omega arith)
 
 -- A line that is ended and not too long is read from its words ws, which the code holds as v.
 module _ (n : ℕ) (l : RawLine) (bytes : Text) (v ws : List Word) (ended : (raw_of l).ended ≡ true) (are : bytes ≡ bytes_of l) (short : length bytes ≤ 400) (same : ws ≡ v) (is : map seen v ≡ placed l.at (words (bytes_of l))) where

@@ -2,6 +2,7 @@
 use Rattle.std.proofs.Common.{◌≡◌, ℕ, zero, suc, ◌+◌, ◌-◌, ◌*◌, ◌^◌, ◌<◌, ◌≤◌, Bool, true, false, cond, not, ◌&&◌, eqb, leb, ◌⊎◌, [], ◌∷◌, length, get_or, ℤ, pos, negsuc, Some, None, decimal, Option, sym, refl, ap, ◌∙◌, subst, inl, inr, ⊎_elim, arith, rules}
 use Rattle.std.specs.Char.{is_ascii_digit}
 use Rattle.std.specs.Str.{all_ascii_digits}
+use Rattle.std.proofs.lemmas.Option.{none-some}
 use Rattle.std.proofs.lemmas.Fmt.{decimal-digits_value, digits_decimal, digits_value-decimal, length-decimal-le, decimal_nonempty, first_decimal}
 use Rattle.std.proofs.lemmas.Str.Parse.{IsNumeralModel, numerals_by_fold, digits_value_short, tells_all_ascii_digits}
 use Rattle.std.proofs.lemmas.Bool.{cases_lt, eqb-true, ne_eqb}
@@ -33,8 +34,8 @@ number_is w = ap (λ r. cond (shapely w) r None) (read_all 0 w)
 
 both : (s d : Bool) (v n : ℕ) → cond s (cond d (Some v) None) None ≡ Some n → (s ≡ true) × (d ≡ true) × (v ≡ n)
 both true true v n e = (refl, refl, cc)
-both true false v n e = absurd (let z : ◌≡◌ {A = ℕ} 0 1 = cc in omega arith)
-both false d v n e = absurd (let z : ◌≡◌ {A = ℕ} 0 1 = cc in omega arith)
+both true false v n e = absurd (none-some n e)
+both false d v n e = absurd (none-some n e)
 
 written : (w : Text) (n : ℕ) → number_of w ≡ Some n → Writes w n
 written w n e =
@@ -79,15 +80,15 @@ minus_suc m = rw (ne_eqb (suc m) 0 (λ e. omega arith))
 
 -- what a minus before digits writes
 below_zero : (v : Text) (r : Option ℕ) (z : ℤ) → Reads Writes v r → with_minus r ≡ Some z → WritesSigned (45 ∷ v) z
-below_zero v None z h e = absurd (let q : ◌≡◌ {A = ℕ} 0 1 = cc in omega arith)
-below_zero v (Some zero) z h e = absurd (let q : ◌≡◌ {A = ℕ} 0 1 = cc in omega arith)
+below_zero v None z h e = absurd (none-some z e)
+below_zero v (Some zero) z h e = absurd (none-some z e)
 below_zero v (Some (suc m)) z h e =
     let k = h.only (suc m) refl in
     let is : negsuc m ≡ z = cc (minus_suc m) in
     subst (WritesSigned (45 ∷ v)) is (record { small = k.small; digits = ap (λ l. 45 ∷ l) k.digits })
 
 plain : (w : Text) (r : Option ℕ) (z : ℤ) → Reads Writes w r → with_plus r ≡ Some z → WritesSigned w z
-plain w None z h e = absurd (let q : ◌≡◌ {A = ℕ} 0 1 = cc in omega arith)
+plain w None z h e = absurd (none-some z e)
 plain w (Some n) z h e =
     let k = h.only n refl in
     let is : pos n ≡ z = cc in

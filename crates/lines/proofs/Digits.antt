@@ -1,5 +1,5 @@
 -- One digit more.
-use Rattle.std.proofs.Common.{◌≡◌, ℕ, ◌+◌, ◌-◌, ◌*◌, ◌^◌, ◌<◌, ◌≤◌, true, false, length, get_or, drop, None, ◌∙◌, arith, pow-add}
+use Rattle.std.proofs.Common.{◌≡◌, ℕ, ◌+◌, ◌-◌, ◌*◌, ◌^◌, ◌<◌, ◌≤◌, true, length, get_or, drop, ◌∙◌, arith, pow-add}
 use native.Mathlib.Nat.{pow-le-pow_right}
 use Rattle.std.specs.Char.{is_ascii_digit}
 use Rattle.std.proofs.lemmas.List.{at_drop_more}
@@ -9,9 +9,6 @@ use Rattle.lines.specs.Numbers.{read_on}
 
 pub read_digit : (n : ℕ) (w : Text) (i : ℕ) → i < length w → is_ascii_digit (get_or w i 0) ≡ true → read_on n (drop i w) ≡ read_on (n * 10 + (get_or w i 0 - 48)) (drop (i + 1) w)
 read_digit n w i lt e = at_drop_more (read_on n) w i 0 lt ∙ rw e
-
-pub read_other : (n : ℕ) (w : Text) (i : ℕ) → i < length w → is_ascii_digit (get_or w i 0) ≡ false → read_on n (drop i w) ≡ None
-read_other n w i lt e = at_drop_more (read_on n) w i 0 lt ∙ rw e
 
 -- one digit more stays below the power of ten
 pub below_ten : (n d i : ℕ) → n < 10 ^ i → d ≤ 9 → i < 9 → (n * 10 + d < 10 ^ (i + 1)) × (n * 10 + d < 1000000000)

@@ -5,6 +5,7 @@ use Rattle.std.specs.Fmt.{signed_decimal}
 use Rattle.std.specs.List.{AllByRecursion}
 use Rattle.std.specs.Str.{bytes_eq, all_ascii_digits}
 use Rattle.std.specs.Char.{is_ascii_digit}
+use Rattle.std.proofs.lemmas.Option.{none-some}
 use Rattle.std.proofs.lemmas.Slice.Eq.{bytes_eq-Decides}
 use Rattle.std.proofs.lemmas.Bool.{eqb-true, le-leb}
 use Rattle.std.proofs.lemmas.List.{length-append}
@@ -23,18 +24,21 @@ use Rattle.lines.proofs.Decimals.{reads, reads_signed, decimal_digits, decimal_s
 use Rattle.lines.proofs.Digits.{digit_le}
 use Rattle.lines.proofs.Splits.{words_of}
 
+err-ok : {A E : Type 0} (d : E) (x : A) → ◌≡◌ {A = Result A E} (Err d) (Ok x) → ⊥
+err-ok d x e = let z : ◌≡◌ {A = ℕ} 0 1 = cc in omega arith
+
 -- what came of steps that all went well
 bind_ok : {A B E : Type 0} (r : Result A E) (f : A → Result B E) (y : B) → bind r f ≡ Ok y → (x : A) × (r ≡ Ok x) × (f x ≡ Ok y)
 bind_ok (Ok x) f y e = (x, refl, e)
-bind_ok (Err d) f y e = absurd (let z : ◌≡◌ {A = ℕ} 0 1 = cc in omega arith)
+bind_ok (Err d) f y e = absurd (err-ok d y e)
 
 cond_ok : {A E : Type 0} (b : Bool) (x y : A) (d : E) → cond b (Ok x) (Err d) ≡ Ok y → (b ≡ true) × (x ≡ y)
 cond_ok true x y d e = (refl, cc)
-cond_ok false x y d e = absurd (let z : ◌≡◌ {A = ℕ} 0 1 = cc in omega arith)
+cond_ok false x y d e = absurd (err-ok d y e)
 
 ok_or_ok : {A E : Type 0} (o : Option A) (x : A) (d : E) → ok_or o d ≡ Ok x → o ≡ Some x
 ok_or_ok (Some y) x d e = cc
-ok_or_ok None x d e = absurd (let z : ◌≡◌ {A = ℕ} 0 1 = cc in omega arith)
+ok_or_ok None x d e = absurd (err-ok d x e)
 
 both_true : (a b : Bool) → (a && b) ≡ true → a ≡ true
 both_true true b e = refl
@@ -48,7 +52,7 @@ verb_ok w v e = go (bytes_eq w (codes "close")) refl e
   where
     go : (t : Bool) → bytes_eq w (codes "close") ≡ t → cond t (Some Close) None ≡ Some v → w ≡ codes "close"
     go true p q = (bytes_eq-Decides w (codes "close")).0 p
-    go false p q = absurd (let z : ◌≡◌ {A = ℕ} 0 1 = cc in omega arith)
+    go false p q = absurd (none-some v q)
 
 asked_ok : (n : ℕ) (v : Verb) (ws vs : List Text) → asked n v ws ≡ Ok (close vs) → (length ws ≡ 12) × (ws ≡ vs)
 asked_ok n Close ws vs e =
@@ -57,7 +61,7 @@ asked_ok n Close ws vs e =
     (eqb-true (length ws) 12 p.0, cc)
 
 command_ok : (n : ℕ) (ws vs : List Text) → command_of n ws ≡ Ok (close vs) → (ws ≡ codes "close" ∷ vs) × (length vs ≡ 12)
-command_ok n [] vs e = absurd (let z : ◌≡◌ {A = ℕ} 0 1 = cc in omega arith)
+command_ok n [] vs e = absurd (err-ok _ _ e)
 command_ok n (w ∷ ws) vs e =
     let p = bind_ok (ok_or (verb_of w) (UnknownWord n)) (λ v. asked n v ws) (close vs) e in
     let first : w ≡ codes "close" = verb_ok w p.0 (ok_or_ok (verb_of w) p.0 (UnknownWord n) p.1) in
@@ -196,4 +200,4 @@ reads_asked n l x h =
 
 pub closing_law : (n : ℕ) (l : Raw) (r : Result Figures SheetFault) → DueOrNoMemory (read_close n l) r → ReadsClosing l r
 closing_law n l r (inl e) = record { only = λ x k. asks_for n l x (sym e ∙ k); all = λ x h. inl (e ∙ reads_asked n l x h) }
-closing_law n l r (inr e) = record { only = λ x k. absurd (let z : ◌≡◌ {A = ℕ} 0 1 = cc in omega arith); all = λ x h. inr e }
+closing_law n l r (inr e) = record { only = λ x k. absurd (err-ok _ _ (sym e ∙ k)); all = λ x h. inr e }

@@ -42,7 +42,7 @@ fn figure(word: Word<'_>, n: usize) -> Result<u64, SheetFault>
         .ok_or(SheetFault::BadNumber(n))
 }
 
-// A figure that may bear a minus.
+// A figure that may bear a minus: another reader and another number, which is no plainer as one function with `figure`.
 fn signed_figure(word: Word<'_>, n: usize) -> Result<i64, SheetFault>
     ensures { result ≡ ok_or (signed_of (text_of word.entry)) (BadNumber n) }
 {
@@ -96,6 +96,7 @@ pub fn figures(line: Line<'_>, n: usize) -> Result<Figures, SheetFault>
 }
 
 // The figures of the closing that line `n` asks for.
+#[tactic(auto, using(crate::proofs::Inverse::closing_law))]
 pub fn read_close(heap: Global, line: RawLine<'_>, n: usize) -> Result<Figures, SheetFault>
     ensures due { DueOrNoMemory (read_close n (raw_of line.entry)) result }
     ensures law { ReadsClosing (raw_of line.entry) result }

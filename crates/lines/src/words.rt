@@ -15,7 +15,7 @@ pub struct Word<'a> {
     pub at: usize,
 }
 
-// The words of a line that stands at the place `at` of its sheet.
+// The words of a line that stands at the place `at` of its sheet. `split` gives no places, so they are summed up beside it.
 fn split<'a>(heap: Global, line: &'a [u8], at: usize) -> Result<Vec<Word<'a>>, AllocError>
     requires { at + length line.now < 2 ^ 64 }
     ensures { IfOk result (λ v. map seen v.items ≡ placed at (words line.now)) }

@@ -1,16 +1,8 @@
 use Rattle.std.proofs.Common.{◌+◌, ◌*◌, ◌≤◌, get_or, drop, sym, ap, ◌∙◌, arith}
-use native.Mathlib.Nat.{pow-le-pow_right}
-use Rattle.std.proofs.lemmas.List.{at_drop_all}
 use Rattle.lines.specs.Numbers.{read_on}
-use Rattle.lines.proofs.Digits.{read_digit, read_other, below_ten, digit_le}
+use Rattle.lines.proofs.Digits.{read_digit, below_ten, digit_le}
 use Rattle.lines.proofs.numbers.digits.Goals as goal
 use Rattle.lines.proofs.numbers.digits.Goals.{After-from}
-
-pub returns-then-not-is_ascii_digit : goal.returns-then-not-is_ascii_digit
-returns-then-not-is_ascii_digit c = record {
-  value = sym (sym c.loop-b.invariant.0 ∙ read_other c.loop-b.n c.args.w.now c.loop-b.b-index (omega arith) (sym c.if-not-is_ascii_digit.ensures.value));
-  bound = tt;
-}
 
 pub overflow_mul-n : goal.overflow_mul-n
 overflow_mul-n c = let h = below_ten c.loop-b.n 0 c.loop-b.b-index c.loop-b.invariant.1 (omega arith) (omega (arith, c.requires)) in omega arith
@@ -27,9 +19,3 @@ loop-b-preserved c =
       ap (λ d. read_on (c.loop-b.n * 10 + d) (drop (c.loop-b.b-index + 1) c.args.w.now)) c.from.ensures ∙ sym step ∙ c.loop-b.invariant.0,
       (below_ten c.loop-b.n c.from.result c.loop-b.b-index c.loop-b.invariant.1 (small c) (omega (arith, c.requires))).0,
     )
-
-pub returns : goal.returns
-returns c = record {
-  value = sym (at_drop_all (read_on c.loop-b.n) c.args.w.now c.loop-b.b-index (omega arith)) ∙ c.loop-b.invariant.0;
-  bound = let q = pow-le-pow_right {n = 10} (omega arith) {i = c.loop-b.b-index} {j = 9} (omega (arith, c.requires)) in omega arith;
-}

@@ -1,4 +1,4 @@
-use Rattle.std.proofs.Common.{Err, vec_items, sym, refl, ◌∙◌, inl, inr, rules}
+use Rattle.std.proofs.Common.{Err, vec_items, sym, ◌∙◌, inl, rules}
 use Rattle.std.proofs.lemmas.Result.{err_from_is_err_and}
 use Rattle.lines.specs.declared.faults.SheetFault.TheVariants.{TooLong}
 use Rattle.lines.specs.Meant.{meaning}
@@ -12,11 +12,6 @@ pub returns-then-not-ended : goal.returns-then-not-ended
 returns-then-not-ended c =
     let due : DueOrNoMemory (read_close c.args.n (raw_of c.args.line)) (Err (TooLong c.args.n)) = search rules in
     record { due = due; law = closing_law _ _ _ due }
-
-pub returns-in_err-words : goal.returns-in_err-words
-returns-in_err-words c =
-    let e = err_from_is_err_and c.from_residual.result c.from_residual.ensures.1 in
-    rw (e.1, e.2) (record { due = inr refl; law = closing_law c.args.n _ _ (inr refl) })
 
 pub returns-in_err-asked : goal.returns-in_err-asked
 returns-in_err-asked c =
