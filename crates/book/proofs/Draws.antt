@@ -28,6 +28,7 @@ use Rattle.book.specs.Records.{record_of, records_from}
 use Rattle.book.specs.Shows.{held_in, row_of, Shows}
 use Rattle.book.specs.Tallies.{record_reach, record_weights, record_side_lots}
 use Rattle.book.specs.Follows.{drawn}
+use Rattle.book.proofs.Tallying.{same_elements}
 
 sum_by_records : (f : PointRecord → ℕ) (g : Point → ℕ) → ((n : ℕ) (q : Point) → f (record_of n q) ≡ g q) → (b : ℕ) (s : Side) (qs : List Point) → sum_by f (records_from b s qs) ≡ sum_by g (on_side s qs)
 sum_by_records f g same b s [] = refl
@@ -45,17 +46,8 @@ sum_of_kind_records f g same k b s (q ∷ qs) = by (same_side s q.side) (sum_of_
     by true e = ap (λ n. cond (same_kind k q.kind) n 0 + sum_of_kind (λ r. r.kind) f k (records_from (suc b) s qs)) (same b q) ∙ ap (λ n. cond (same_kind k q.kind) (g q) 0 + n) e
     by false e = e
 
-abbrev lots : ℕ → ℕ → ℕ → Elements Lots
-lots a b c = record { main = record { 0 = a }; other = record { 0 = b }; storage = record { 0 = c } }
-
-same_lots : (a b c a' b' c' : ℕ) → a ≡ a' → b ≡ b' → c ≡ c' → lots a b c ≡ lots a' b' c'
-same_lots a b c a' b' c' p q r = ap (λ x. lots x b c) p ∙ ap (λ x. lots a' x c) q ∙ ap (λ x. lots a' b' x) r
-
-abbrev weights : ℕ → ℕ → ℕ → Elements ℕ
-weights a b c = record { main = a; other = b; storage = c }
-
-same_weights : (a b c a' b' c' : ℕ) → a ≡ a' → b ≡ b' → c ≡ c' → weights a b c ≡ weights a' b' c'
-same_weights a b c a' b' c' p q r = ap (λ x. weights x b c) p ∙ ap (λ x. weights a' x c) q ∙ ap (λ x. weights a' b' x) r
+abbrev lots : ℕ → Lots
+lots n = record { 0 = n }
 
 module _ (net : Net) (t : PointTable) (p : Plain) (sh : Shows t p) where
   weight_shown : (s : Side) (k : Kind) → sum_of_kind (λ r. r.kind) (λ r. r.lots.0 * record_reach net r.station (held_in (row_of t (opposite s)))) k (held_in (row_of t s)) ≡ weight_of net p.points s k
@@ -65,13 +57,16 @@ module _ (net : Net) (t : PointTable) (p : Plain) (sh : Shows t p) where
       ∙ sum_of_kind_records _ _ (λ n q. ap (λ m. q.lots * m) (sum_by_records (λ r. r.lots.0 * km (net.distance q.station r.station)) (λ x. x.lots * km (net.distance q.station x.station)) (λ _ _. refl) 0 (opposite s) p.points)) k 0 s p.points
 
   pub weights_shown : (s : Side) → record_weights net s (held_in (row_of t s)) (held_in (row_of t (opposite s))) ≡ weights_of net p.points s
-  weights_shown s = same_weights _ _ _ _ _ _ (weight_shown s (main_kind s)) (weight_shown s (other_kind s)) (weight_shown s Storage)
+  weights_shown s = same_elements _ _ _ _ _ _ (weight_shown s (main_kind s)) (weight_shown s (other_kind s)) (weight_shown s Storage)
 
   lots_by : (s : Side) (k : Kind) → sum_of_kind (λ r. r.kind) (λ r. r.lots.0) k (held_in (row_of t s)) ≡ lots_in p.points s k
   lots_by s k = ap (sum_of_kind (λ r. r.kind) (λ r. r.lots.0) k) (sh.sides s).records ∙ sum_of_kind_records (λ r. r.lots.0) (λ q. q.lots) (λ _ _. refl) k 0 s p.points
 
+  lots_of_kind : (s : Side) (k : Kind) → lots (sum_of_kind (λ r. r.kind) (λ r. r.lots.0) k (held_in (row_of t s))) ≡ lots (lots_in p.points s k)
+  lots_of_kind s k = ap lots (lots_by s k)
+
   pub lots_shown : (s : Side) → record_side_lots s (held_in (row_of t s)) ≡ side_lots p.points s
-  lots_shown s = same_lots _ _ _ _ _ _ (lots_by s (main_kind s)) (lots_by s (other_kind s)) (lots_by s Storage)
+  lots_shown s = same_elements _ _ _ _ _ _ (lots_of_kind s (main_kind s)) (lots_of_kind s (other_kind s)) (lots_of_kind s Storage)
 
 -- a drawing, from the figures that tables and plain books have
 abbrev drawing_from : ℕ → Elements ℕ → ℕ → Elements Lots → Elements ℕ → ℕ → Elements Lots → Drawing

@@ -15,26 +15,26 @@ use Rattle.book.specs.Records.{record_lots, blank}
 use Rattle.book.specs.Tallies.{no_weights, plus, both, tally, record_load, record_reach, record_weights, brought, Within, most_reach}
 use Rattle.book.proofs.Sums.{sum_of_kind_push, sum_of_kind_le}
 
-abbrev weights : ℕ → ℕ → ℕ → Elements ℕ
-weights a b c = record { main = a; other = b; storage = c }
+abbrev pub elements : {T : Type 0} → T → T → T → Elements T
+elements a b c = record { main = a; other = b; storage = c }
 
-same_weights : (a b c a' b' c' : ℕ) → a ≡ a' → b ≡ b' → c ≡ c' → weights a b c ≡ weights a' b' c'
-same_weights a b c a' b' c' p q r = ap (λ x. weights x b c) p ∙ ap (λ x. weights a' x c) q ∙ ap (λ x. weights a' b' x) r
+pub same_elements : {T : Type 0} (a b c a' b' c' : T) → a ≡ a' → b ≡ b' → c ≡ c' → elements a b c ≡ elements a' b' c'
+same_elements a b c a' b' c' p q r = ap (λ x. elements x b c) p ∙ ap (λ x. elements a' x c) q ∙ ap (λ x. elements a' b' x) r
 
 -- ---- one record more
 
 tally_push : (s : Side) (f : PointRecord → ℕ) (xs : List PointRecord) (x : PointRecord) → plus s x.kind (tally s f xs) (f x) ≡ tally s f (xs ++ (x ∷ []))
 tally_push s f xs x =
-    same_weights _ _ _ _ _ _ (sym (sum_of_kind_push (λ r. r.kind) f (main_kind s) xs x)) (sym (sum_of_kind_push (λ r. r.kind) f (other_kind s) xs x)) (sym (sum_of_kind_push (λ r. r.kind) f Storage xs x))
+    same_elements _ _ _ _ _ _ (sym (sum_of_kind_push (λ r. r.kind) f (main_kind s) xs x)) (sym (sum_of_kind_push (λ r. r.kind) f (other_kind s) xs x)) (sym (sum_of_kind_push (λ r. r.kind) f Storage xs x))
 
 pub tally_more : (s : Side) (f : PointRecord → ℕ) (xs : List PointRecord) (i : ℕ) (d : PointRecord) → i < length xs → plus s (get_or xs i d).kind (tally s f (take i xs)) (f (get_or xs i d)) ≡ tally s f (take (i + 1) xs)
 tally_more s f xs i d l = tally_push s f (take i xs) (get_or xs i d) ∙ ap (tally s f) (sym (take_more xs i d l))
 
 pub plus_both : (s : Side) (k : Kind) (a w : Elements ℕ) (n : ℕ) → plus s k (both a w) n ≡ both a (plus s k w n)
-plus_both s k a w n = same_weights _ _ _ _ _ _ (omega arith) (omega arith) (omega arith)
+plus_both s k a w n = same_elements _ _ _ _ _ _ (omega arith) (omega arith) (omega arith)
 
 pub both_none : (a : Elements ℕ) → a ≡ both a no_weights
-both_none a = same_weights _ _ _ _ _ _ (omega arith) (omega arith) (omega arith)
+both_none a = same_elements _ _ _ _ _ _ (omega arith) (omega arith) (omega arith)
 
 -- ---- bounds
 
@@ -103,7 +103,7 @@ module _ (net : Net) (lawful : Lawful net) (e : PointRecord) where
       by false h = omega (arith, h)
 
   weights_other : (s : Side) (xs es : List PointRecord) → record_weights net s xs (es ++ (e ∷ [])) ≡ both (record_weights net s xs es) (tally s (brought net e) xs)
-  weights_other s xs es = same_weights _ _ _ _ _ _ (other_push (main_kind s) es xs) (other_push (other_kind s) es xs) (other_push Storage es xs)
+  weights_other s xs es = same_elements _ _ _ _ _ _ (other_push (main_kind s) es xs) (other_push (other_kind s) es xs) (other_push Storage es xs)
 
 pub other_more : (net : Net) (lawful : Lawful net) (s : Side) (xs es : List PointRecord) (i : ℕ) (d : PointRecord) → i < length es → both (record_weights net s xs (take i es)) (tally s (brought net (get_or es i d)) xs) ≡ record_weights net s xs (take (i + 1) es)
 other_more net lawful s xs es i d l = sym (weights_other net lawful (get_or es i d) s xs (take i es)) ∙ ap (record_weights net s xs) (sym (take_more es i d l))
@@ -118,4 +118,4 @@ none_by net k (x ∷ xs) = by (same_kind k x.kind) (none_by net k xs)
 
 -- against no points no weight
 pub none_other : (net : Net) (s : Side) (xs : List PointRecord) → no_weights ≡ record_weights net s xs []
-none_other net s xs = same_weights _ _ _ _ _ _ (none_by net (main_kind s) xs) (none_by net (other_kind s) xs) (none_by net Storage xs)
+none_other net s xs = same_elements _ _ _ _ _ _ (none_by net (main_kind s) xs) (none_by net (other_kind s) xs) (none_by net Storage xs)

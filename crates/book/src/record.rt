@@ -2,7 +2,7 @@
 use terms::measures::Lots;
 use terms::points::Kind;
 
-#[derive(Clone, Copy)]
+#[derive(Clone, Copy, PartialEq, Eq, Debug)]
 pub struct PointRecord {
     pub number: u32,
     pub kind: Kind,

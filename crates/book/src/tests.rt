@@ -67,13 +67,9 @@ fn worked(rt: &impl Abort, heap: Global) -> Result<Book<Trunk>, Fail> {
 }
 
 fn element(share: u64, tariff: Option<u64>) -> ElementFigures {
-    let tariff = match tariff {
-        Some(steps) => Some(PriceSteps(steps)),
-        None => None,
-    };
     ElementFigures {
         share: Dinars(share),
-        tariff,
+        tariff: tariff.map(PriceSteps),
     }
 }
 
@@ -267,14 +263,6 @@ fn storage_alone_has_no_exact_shares(rt: HostRuntime) -> Result<(), Fail> {
     Ok(())
 }
 
-// Why an outcome is a refusal, if it is one.
-fn fault_of(outcome: Result<Answer, BookFault>) -> Option<BookFault> {
-    match outcome {
-        Ok(_) => None,
-        Err(fault) => Some(fault),
-    }
-}
-
 // The figures of an outcome that drafted some.
 fn drawn(outcome: Result<Answer, BookFault>) -> Result<TariffFigures, Fail> {
     match outcome {
@@ -299,7 +287,7 @@ fn a_refused_draw_leaves_no_trace(rt: HostRuntime) -> Result<(), Fail> {
     ];
     let (book, outcomes) = replay(rt.alloc(), Trunk::new(rt.alloc(), &[0, 40])?, &calls)?;
     assert!(rt; outcomes.len() == 10);
-    assert_eq!(rt; fault_of(outcomes[7]), Some(BookFault::NoEntryShares));
+    assert_eq!(rt; outcomes[7], Err(BookFault::NoEntryShares));
     let before = drawn(outcomes[5])?;
     assert_eq!(rt; drawn(outcomes[9])?, before);
     assert_eq!(rt; shares(before), 9_001);

@@ -1,8 +1,9 @@
 -- The points of a book, and what a plain book keeps.
-use Rattle.std.specs.Prelude.{ℕ, Bool, true, false, List, [], ℤ, pos, filter, sum_by}
+use Rattle.std.specs.Prelude.{ℕ, Bool, List, [], ℤ, pos, filter, sum_by, ◌==◌}
 use Rattle.terms.specs.declared.points.Side.{Side}
 use Rattle.terms.specs.declared.points.Side.TheVariants.{Entry, Exit}
 use Rattle.terms.specs.declared.points.Kind.{Kind}
+use Rattle.terms.specs.Points.{side_letter}
 use Rattle.revenue.specs.declared.figures.Closing.{Closing}
 
 -- A point: its side and kind, the station where it stands, and its planned lots.
@@ -33,11 +34,9 @@ pub record Plain : Type 0 where
 abbrev pub empty : Plain
 empty = record { points = []; relief = λ _. 0; allowed = 0; carried = pos 0; closings = [] }
 
+-- whether two sides are one, by their letters
 abbrev pub same_side : Side → Side → Bool
-same_side Entry Entry = true
-same_side Entry Exit = false
-same_side Exit Entry = false
-same_side Exit Exit = true
+same_side s t = side_letter s == side_letter t
 
 abbrev pub opposite : Side → Side
 opposite Entry = Exit

@@ -1,10 +1,11 @@
 -- Weights of points and elements, and what a draw is worked from.
-use Rattle.std.specs.Prelude.{ℕ, ◌+◌, ◌*◌, Bool, true, false, cond, List, [], ◌∷◌, Some, None, Option, sum_by}
+use Rattle.std.specs.Prelude.{ℕ, ◌+◌, ◌*◌, Bool, cond, List, [], ◌∷◌, Some, None, Option, sum_by, ◌==◌}
 use Rattle.terms.specs.declared.points.Side.{Side}
 use Rattle.terms.specs.declared.points.Side.TheVariants.{Entry, Exit}
 use Rattle.terms.specs.declared.points.Kind.{Kind}
 use Rattle.terms.specs.declared.points.Kind.TheVariants.{Transmission, Production, Storage, Local, Interconnector}
 use Rattle.terms.specs.declared.measures.Lots.{Lots}
+use Rattle.terms.specs.Points.{kind_letter}
 use Rattle.network.specs.Net.{Net}
 use Rattle.pricing.specs.declared.elements.Elements.{Elements}
 use Rattle.pricing.specs.Drafts.{Drawing}
@@ -20,33 +21,9 @@ abbrev pub other_kind : Side → Kind
 other_kind Entry = Production
 other_kind Exit = Interconnector
 
--- whether two kinds are one, by their places in the order T, P, S, L, I
+-- whether two kinds are one, by their letters
 abbrev pub same_kind : Kind → Kind → Bool
-same_kind Transmission Transmission = true
-same_kind Transmission Production = false
-same_kind Transmission Storage = false
-same_kind Transmission Local = false
-same_kind Transmission Interconnector = false
-same_kind Production Transmission = false
-same_kind Production Production = true
-same_kind Production Storage = false
-same_kind Production Local = false
-same_kind Production Interconnector = false
-same_kind Storage Transmission = false
-same_kind Storage Production = false
-same_kind Storage Storage = true
-same_kind Storage Local = false
-same_kind Storage Interconnector = false
-same_kind Local Transmission = false
-same_kind Local Production = false
-same_kind Local Storage = false
-same_kind Local Local = true
-same_kind Local Interconnector = false
-same_kind Interconnector Transmission = false
-same_kind Interconnector Production = false
-same_kind Interconnector Storage = false
-same_kind Interconnector Local = false
-same_kind Interconnector Interconnector = true
+same_kind j k = kind_letter j == kind_letter k
 
 -- the sum of a figure over those of one kind
 abbrev pub sum_of_kind : {X : Type 0} → (X → Kind) → (X → ℕ) → Kind → List X → ℕ

@@ -5,7 +5,7 @@ use terms::measures::Lots;
 use terms::points::{Kind, Side};
 
 // A book is handled by these calls and by nothing else.
-#[derive(Clone, Copy)]
+#[derive(Clone, Copy, PartialEq, Eq, Debug)]
 pub enum Call {
     // a point of this side and kind at this station
     Open(Side, Kind, u32),
@@ -20,7 +20,7 @@ pub enum Call {
 }
 
 // What an accepted call answers: figures to look at. Nobody approves, prices or prints from these.
-#[derive(Clone, Copy)]
+#[derive(Clone, Copy, PartialEq, Eq, Debug)]
 pub enum Answer {
     // the point's number
     Opened(u32),
