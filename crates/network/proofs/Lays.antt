@@ -1,6 +1,7 @@
 -- Laying pipes on a square of figures, and the stages of the search on it.
 use Rattle.std.proofs.Common.{◌≡◌, ℕ, ◌+◌, ◌*◌, ◌<◌, ◌≤◌, min, cond, eqb, ◌⊎◌, List, length, set, Some, None, Option, sym, refl, ap, ◌∙◌, subst, inl, inr, ⊎_elim, arith, length-set}
 use Rattle.std.proofs.lemmas.Bool.Decides.{nat_tests, eqb_tells}
+use Rattle.std.proofs.lemmas.Bool.{cases_lt}
 use Rattle.network.specs.declared.pipe.Pipe.{Pipe}
 use Rattle.network.specs.Limits.{bottom_stations, longest, none_figure}
 use Rattle.network.specs.Rules.{First}
@@ -9,7 +10,7 @@ use Rattle.network.specs.Routes.Route.{stay, go}
 use Rattle.network.specs.Grid.{at, distance_of, grid_net, Square, GridLaws}
 use Rattle.network.specs.Search.{through, laid}
 use Rattle.network.specs.Pipes.{pipe_at, Lies, Joins, GoodPipe, GoodPipes, LeastGrid}
-use Rattle.network.specs.Nets.{Within, below_or_not, inside_in, inside_out}
+use Rattle.network.specs.Nets.{Within, inside_in, inside_out}
 use Rattle.network.proofs.Roads.{first_in, last_in, shortest_lawful}
 use Rattle.network.proofs.Stages.{Stage, relaxed, next, at_last}
 use Rattle.network.specs.Cells.{written}
@@ -104,7 +105,7 @@ module _ (n : ℕ) (ps : List Pipe) (i : ℕ) (ws : List ℕ) (sq : Square n ws)
       ⊎_elim
       (λ s. before.sound a b m ha hb (is_distance (at n ws a b) (omega (arith, good.short)) ∙ ap Some (omega (arith, e))))
       (λ s. (p.length.0 + 0, (go a b b p.length.0 0 (i, (inn, (h, refl))) (stay b hb), omega (arith, good.short, e))))
-      (below_or_not (at n ws a b) p.length.0)
+      (cases_lt (at n ws a b) p.length.0)
 
   split : (j : ℕ) → j < i + 1 → (j < i) ⊎ (j ≡ i)
   split j h = grind arith
@@ -196,9 +197,9 @@ module _ (n : ℕ) (ps : List Pipe) (goods : GoodPipes n ps) where
           (λ h. ⊎_elim
           (λ k. subst (LeastOf (Route (Joins ps) n a b)) (sym (inside_in n a b (distance_of (at n ws a b)) h k)) (least a b h k))
           (λ k. none_least _ _ (λ l r. omega (arith, last_in (Joins ps) n turn ends a b l r)) (inside_out n a b (distance_of (at n ws a b)) (inr k)))
-          (below_or_not b n))
+          (cases_lt b n))
           (λ h. none_least _ _ (λ l r. omega (arith, first_in (Joins ps) n turn ends a b l r)) (inside_out n a b (distance_of (at n ws a b)) (inl h)))
-          (below_or_not a n);
+          (cases_lt a n);
     }
 
     pub least_laws : 1 ≤ n → n ≤ bottom_stations → GridLaws n ws
@@ -207,11 +208,11 @@ module _ (n : ℕ) (ps : List Pipe) (goods : GoodPipes n ps) where
 -- a pipe that is not bad is good
 good_stable : (n : ℕ) (p : Pipe) → ((GoodPipe n p → ⊥) → ⊥) → GoodPipe n p
 good_stable n p h = record {
-  from_in = ⊎_elim (λ l. l) (λ l. absurd (h (λ g. omega (arith, g.from_in)))) (below_or_not p.from n);
-  to_in = ⊎_elim (λ l. l) (λ l. absurd (h (λ g. omega (arith, g.to_in)))) (below_or_not p.to n);
+  from_in = ⊎_elim (λ l. l) (λ l. absurd (h (λ g. omega (arith, g.from_in)))) (cases_lt p.from n);
+  to_in = ⊎_elim (λ l. l) (λ l. absurd (h (λ g. omega (arith, g.to_in)))) (cases_lt p.to n);
   apart = λ e. h (λ g. g.apart e);
-  some_length = ⊎_elim (λ l. absurd (h (λ g. omega (arith, g.some_length)))) (λ l. l) (below_or_not p.length.0 1);
-  short = ⊎_elim (λ l. omega arith) (λ l. absurd (h (λ g. omega (arith, g.short)))) (below_or_not p.length.0 (longest + 1));
+  some_length = ⊎_elim (λ l. absurd (h (λ g. omega (arith, g.some_length)))) (λ l. l) (cases_lt p.length.0 1);
+  short = ⊎_elim (λ l. omega arith) (λ l. absurd (h (λ g. omega (arith, g.short)))) (cases_lt p.length.0 (longest + 1));
 }
 
 pub goods_of : (n : ℕ) (ps : List Pipe) → First (λ i. GoodPipe n (pipe_at ps i) → ⊥) (length ps) None → GoodPipes n ps

@@ -1,13 +1,12 @@
 -- A table that breaks no rule keeps the laws.
 use Rattle.std.proofs.Common.{◌≡◌, ℕ, ◌+◌, ◌*◌, ◌/◌, ◌%◌, ◌<◌, ◌≤◌, Bool, true, false, List, length, get_or, None, MatchBool, sym, refl, subst, ⊎_elim, arith}
-use Rattle.std.proofs.lemmas.Nat.{div-mul-add, mod-mul-add}
+use Rattle.std.proofs.lemmas.Nat.{div-mul-add, mod-mul-add, mul-add-lt}
+use Rattle.std.proofs.lemmas.Bool.{cases_lt}
 use Rattle.network.specs.Limits.{longest}
 use Rattle.network.specs.Rules.{First}
 use Rattle.network.specs.Grid.{at, GridLaws}
 use Rattle.network.specs.Table.{NoFigure, Beaten, BreaksLaw}
 use Rattle.network.specs.Table.BreaksLaw.{not_itself, unlike, beaten}
-use Rattle.network.specs.Nets.{below_or_not}
-use Rattle.network.specs.Cells.{cell_in}
 
 -- two numbers that are not unlike are the same
 same : (x y : ℕ) → ((x ≡ y → ⊥) → ⊥) → x ≡ y
@@ -33,7 +32,7 @@ module _ (n : ℕ) (ws : List ℕ) (size : length ws ≡ n * n)
     (plain-figures : First (λ i. NoFigure (get_or ws i 0)) (length ws) None)
     (kept_laws : First (λ i. BreaksLaw n ws (i / n) (i % n)) (length ws) None) where
   place : (a b : ℕ) → a < n → b < n → a * n + b < length ws
-  place a b ha hb = omega (arith, size, cell_in n a b ha hb)
+  place a b ha hb = omega (arith, size, mul-add-lt a n b n ha hb)
 
   kept : (a b : ℕ) → a < n → b < n → BreaksLaw n ws a b → ⊥
   kept a b ha hb broken =
@@ -47,7 +46,7 @@ module _ (n : ℕ) (ws : List ℕ) (size : length ws ≡ n * n)
       ⊎_elim
       (λ h. absurd (kept a c ha hc (beaten b (record { station = hb; to = e; from = f; longer = h }))))
       (λ h. h)
-      (below_or_not (at n ws a b + at n ws b c) (at n ws a c))
+      (cases_lt (at n ws a b + at n ws b c) (at n ws a c))
 
   pub table_laws : GridLaws n ws
   table_laws = record {

@@ -6,9 +6,6 @@ use Rattle.std.proofs.lemmas.Nat.{mul-add-lt, div-mul-add, mod-mul-add}
 use Rattle.std.proofs.lemmas.List.{get_or-set_same, get_or-set_other}
 use Rattle.network.specs.Grid.{at, Square}
 
-pub cell_in : (n a b : ℕ) → a < n → b < n → a * n + b < n * n
-cell_in n a b h k = mul-add-lt a n b n h k
-
 cell_row : (n a b c d : ℕ) → b < n → d < n → a * n + b ≡ c * n + d → a ≡ c
 cell_row n a b c d h k e = sym (div-mul-add a n b h) ∙ ap (λ (x : ℕ). x / n) e ∙ div-mul-add c n d k
 
@@ -18,7 +15,7 @@ cell_column n a b c d h k e = sym (mod-mul-add a n b h) ∙ ap (λ (x : ℕ). x 
 -- a write to cell a, b, seen at c, d
 pub written : (n : ℕ) (ws : List ℕ) (a b v c d : ℕ) → Square n ws → a < n → b < n → d < n → at n (slice_set ws (a * n + b) v) c d ≡ cond (c == a) (cond (d == b) v (at n ws c d)) (at n ws c d)
 written n ws a b v c d sq ha hb hd =
-    let in_list : a * n + b < length ws = omega (arith, sq.size, cell_in n a b ha hb) in
+    let in_list : a * n + b < length ws = omega (arith, sq.size, mul-add-lt a n b n ha hb) in
     let apart : (c * n + d ≢ a * n + b) → at n (slice_set ws (a * n + b) v) c d ≡ at n ws c d = λ ne. get_or-set_other ws (a * n + b) (c * n + d) v 0 ne in
     ⊎_elim
     (λ p. ⊎_elim

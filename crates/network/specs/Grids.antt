@@ -1,16 +1,16 @@
 -- The laws of a square of figures are those of the net that it means.
-use Rattle.std.specs.Prelude.{◌≡◌, ℕ, ◌+◌, ◌*◌, ◌/◌, ◌%◌, ◌<◌, ◌≤◌, ◌⊎◌, List, Some, None, Option, slice_index, refl}
+use Rattle.std.specs.Prelude.{◌≡◌, ℕ, ◌+◌, ◌*◌, ◌/◌, ◌%◌, ◌<◌, ◌≤◌, List, Some, None, Option, slice_index, refl}
 use Rattle.std.proofs.Common.{sym, ap, ◌∙◌, inl, inr, ⊎_elim, arith}
 use Rattle.std.proofs.Math.Logic.{∥∥₁_elim}
 use Rattle.std.proofs.Math.Bridge.{le_prop}
 use base.Stored.{Coded-set, coded_ℕ}
 use Rattle.std.proofs.lemmas.Bool.Decides.{nat_tests}
-use Rattle.std.proofs.lemmas.Nat.{div-mul-add, mod-mul-add}
+use Rattle.std.proofs.lemmas.Nat.{div-mul-add, mod-mul-add, mul-add-lt}
+use Rattle.std.proofs.lemmas.Bool.{cases_lt}
 use Rattle.network.specs.Limits.{bottom_stations, longest}
 use Rattle.network.specs.Net.{Net, Lawful}
 use Rattle.network.specs.Grid.{at, distance_of, figure_of, grid_net, GridLaws}
-use Rattle.network.specs.Nets.{below_or_not, inside_in, inside_out, inside_some}
-use Rattle.network.specs.Cells.{cell_in}
+use Rattle.network.specs.Nets.{inside_in, inside_out, inside_some}
 
 -- the laws out of a ghost field
 pub unlock : (n : ℕ) (ws : List ℕ) → ∥ GridLaws n ws ∥₁ → GridLaws n ws
@@ -30,9 +30,6 @@ no_distance x h = grind (arith, nat_tests)
 pub distance_some : (x k : ℕ) → distance_of x ≡ Some k → (x ≡ k) × (x ≤ longest)
 distance_some x k e = (grind (arith, nat_tests), grind (arith, nat_tests))
 
-short_or_none : (x : ℕ) → (x ≤ longest) ⊎ (longest < x)
-short_or_none x = grind arith
-
 module _ (n : ℕ) (ws : List ℕ) where
   -- a figure up to 9,999 of two stations is their distance, and a distance is such a figure
   pub seen : (a b : ℕ) → a < n → b < n → at n ws a b ≤ longest → (grid_net n ws).distance a b ≡ Some (at n ws a b)
@@ -45,12 +42,12 @@ module _ (n : ℕ) (ws : List ℕ) (some : 1 ≤ n) (few : n ≤ bottom_stations
   figure_mirror : (a b : ℕ) → a < n → b < n → distance_of (at n ws a b) ≡ distance_of (at n ws b a)
   figure_mirror a b ha hb =
       ⊎_elim
-      (λ h. ap distance_of (sym (laws.mirror a b ha hb h)))
       (λ h. ⊎_elim
-      (λ k. ap distance_of (laws.mirror b a hb ha k))
       (λ k. no_distance (at n ws a b) h ∙ sym (no_distance (at n ws b a) k))
-      (short_or_none (at n ws b a)))
-      (short_or_none (at n ws a b))
+      (λ k. ap distance_of (laws.mirror b a hb ha k))
+      (cases_lt longest (at n ws b a)))
+      (λ h. ap distance_of (sym (laws.mirror a b ha hb h)))
+      (cases_lt longest (at n ws a b))
 
   mirror : (a b : ℕ) → (grid_net n ws).distance a b ≡ (grid_net n ws).distance b a
   mirror a b =
@@ -58,9 +55,9 @@ module _ (n : ℕ) (ws : List ℕ) (some : 1 ≤ n) (few : n ≤ bottom_stations
       (λ h. ⊎_elim
       (λ k. inside_in n a b _ h k ∙ figure_mirror a b h k ∙ sym (inside_in n b a _ k h))
       (λ k. inside_out n a b _ (inr k) ∙ sym (inside_out n b a _ (inl k)))
-      (below_or_not b n))
+      (cases_lt b n))
       (λ h. inside_out n a b _ (inl h) ∙ sym (inside_out n b a _ (inr h)))
-      (below_or_not a n)
+      (cases_lt a n)
 
   pub grid_lawful : Lawful (grid_net n ws)
   grid_lawful = record {
@@ -105,7 +102,7 @@ module _ (net : Net) (law : Lawful net) (ws : List ℕ)
 
   placed : (a b : ℕ) → a < m → b < m → at m ws a b ≡ figure_of (net.distance a b)
   placed a b ha hb =
-      figures (a * m + b) (cell_in m a b ha hb)
+      figures (a * m + b) (mul-add-lt a m b m ha hb)
       ∙ ap (λ (x : ℕ). figure_of (net.distance x ((a * m + b) % m))) (div-mul-add a m b hb)
       ∙ ap (λ (x : ℕ). figure_of (net.distance a x)) (mod-mul-add a m b hb)
 
@@ -115,9 +112,9 @@ module _ (net : Net) (law : Lawful net) (ws : List ℕ)
       (λ h. ⊎_elim
       (λ k. inside_in m a b _ h k ∙ ap distance_of (placed a b h k) ∙ read_back (net.distance a b) (law.short a b))
       (λ k. inside_out m a b _ (inr k) ∙ sym (law.outside a b (inr k)))
-      (below_or_not b m))
+      (cases_lt b m))
       (λ h. inside_out m a b _ (inl h) ∙ sym (law.outside a b (inl h)))
-      (below_or_not a m)
+      (cases_lt a m)
 
   pub tabulated : grid_net m ws ≡ net
   tabulated = λ i. record { stations = m; distance = λ a b. far a b i }

@@ -5,9 +5,6 @@ use Rattle.std.proofs.lemmas.Bool.Decides.{nat_tests}
 use Rattle.network.specs.Limits.{longest}
 use Rattle.network.specs.Net.{inside, plus, least, capped}
 
-pub below_or_not : (a n : ℕ) → (a < n) ⊎ (n ≤ a)
-below_or_not a n = grind arith
-
 pub inside_in : (n a b : ℕ) (o : Option ℕ) → a < n → b < n → inside n a b o ≡ o
 inside_in n a b o h k = grind (arith, nat_tests)
 
@@ -19,7 +16,7 @@ inside_some n a b k o h = (grind (arith, nat_tests), (grind (arith, nat_tests), 
 
 -- none is not some
 pub never : {A : Type 0} (o : Option ℕ) (k : ℕ) → o ≡ None → o ≡ Some k → A
-never o k e f = let z : ◌≡◌ {A = ℕ} 0 1 = cc in absurd (omega arith)
+never o k e f = cc
 
 pub some_is : (j k : ℕ) → Some j ≡ Some k → j ≡ k
 some_is j k e = cc
@@ -35,10 +32,7 @@ pub looser : (o : Option ℕ) (j k : ℕ) → Within o j → j ≤ k → Within 
 looser o j k h l = (h.0, (h.1.0, omega (arith, h.1.1)))
 
 pub at_zero : (o : Option ℕ) → Within o 0 → o ≡ Some 0
-at_zero o h = let z : h.0 ≡ 0 = omega (arith, h.1.1) in subst_some h.1.0 z
-  where
-    subst_some : {j : ℕ} → o ≡ Some j → j ≡ 0 → o ≡ Some 0
-    subst_some e z = cc
+at_zero o h = let z : h.0 ≡ 0 = omega (arith, h.1.1) in cc (h.1.0)
 
 pub least_left : (o r : Option ℕ) (k : ℕ) → Within o k → Within (least o r) k
 least_left None r k h = never None h.0 refl h.1.0

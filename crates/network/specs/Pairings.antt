@@ -3,18 +3,19 @@ use Rattle.std.specs.Prelude.{◌≡◌, ℕ, ◌+◌, ◌-◌, ◌<◌, ◌≤�
 use Rattle.std.proofs.Math.Path.{sym}
 use Rattle.std.proofs.Common.{ap, ◌∙◌, inl, inr, ⊎_elim, arith}
 use Rattle.std.proofs.lemmas.Bool.Decides.{nat_tests}
+use Rattle.std.proofs.lemmas.Bool.{cases_lt}
 use Rattle.network.specs.Limits.{most_stations, longest}
 use Rattle.network.specs.Net.{Net, Lawful, plus, capped}
 use Rattle.network.specs.Pairing.{across, paired, pairing_net, cut_pairing}
-use Rattle.network.specs.Nets.{below_or_not, inside_in, inside_out, inside_some, Within, exact, plus_in, plus_some, plus_none, capped_in, capped_some}
+use Rattle.network.specs.Nets.{inside_in, inside_out, inside_some, Within, exact, plus_in, plus_some, plus_none, capped_in, capped_some}
 
 -- a fact about each of two numbers, each below a bound or not
 four : {P : Type 0} (n a b : ℕ) → (a < n → b < n → P) → (a < n → n ≤ b → P) → (n ≤ a → b < n → P) → (n ≤ a → n ≤ b → P) → P
 four n a b p q r s =
     ⊎_elim
-    (λ h. ⊎_elim (p h) (q h) (below_or_not b n))
-    (λ h. ⊎_elim (r h) (s h) (below_or_not b n))
-    (below_or_not a n)
+    (λ h. ⊎_elim (p h) (q h) (cases_lt b n))
+    (λ h. ⊎_elim (r h) (s h) (cases_lt b n))
+    (cases_lt a n)
 
 onto : (o r : Option ℕ) (k : ℕ) → o ≡ r → Within r k → Within o k
 onto o r k e h = (h.0, (e ∙ h.1.0, h.1.1))
@@ -75,7 +76,7 @@ module _ (s t : Net) (sl : Lawful s) (tl : Lawful t) (x y : ℕ) where
       let w = parts c (b - m) k (sym (at_ts b c hb hc) ∙ f) in
       let d = sl.detour a x c v.0 w.0 v.1.1.0 (sl.mirror x c ∙ w.1.1.0) in
       onto _ _ (j + k) (at_ss a c ha hc) (shorter (s.distance a c) (v.0 + w.0) (j + k) (sl.short a c) d (omega (arith, v.1.1.1.1, w.1.1.1.1))))
-      (below_or_not b m))
+      (cases_lt b m))
       (λ ha hc. ⊎_elim
       (λ hb.
       let w = parts b (c - m) k (sym (at_st b c hb hc) ∙ f) in
@@ -85,7 +86,7 @@ module _ (s t : Net) (sl : Lawful s) (tl : Lawful t) (x y : ℕ) where
       let v = parts a (b - m) j (sym (at_st a b ha hb) ∙ e) in
       let d = tl.detour y (b - m) (c - m) v.1.0 k v.1.1.1.0 (sym (at_tt b c hb hc) ∙ f) in
       onto _ _ (j + k) (at_st a c ha hc) (cross a (c - m) v.0 (v.1.0 + k) (j + k) (exact _ v.0 v.1.1.0) d (omega (arith, v.1.1.1.1))))
-      (below_or_not b m))
+      (cases_lt b m))
       (λ ha hc. ⊎_elim
       (λ hb.
       let v = parts b (a - m) j (sym (at_ts a b ha hb) ∙ e) in
@@ -95,7 +96,7 @@ module _ (s t : Net) (sl : Lawful s) (tl : Lawful t) (x y : ℕ) where
       let w = parts c (b - m) k (sym (at_ts b c hb hc) ∙ f) in
       let d = tl.detour y (b - m) (a - m) w.1.0 j w.1.1.1.0 (tl.mirror (b - m) (a - m) ∙ sym (at_tt a b ha hb) ∙ e) in
       onto _ _ (j + k) (at_ts a c ha hc) (cross c (a - m) w.0 (w.1.0 + j) (j + k) (exact _ w.0 w.1.1.0) d (omega (arith, w.1.1.1.1))))
-      (below_or_not b m))
+      (cases_lt b m))
       (λ ha hc. ⊎_elim
       (λ hb.
       let v = parts b (a - m) j (sym (at_ts a b ha hb) ∙ e) in
@@ -103,7 +104,7 @@ module _ (s t : Net) (sl : Lawful s) (tl : Lawful t) (x y : ℕ) where
       let d = tl.detour (a - m) y (c - m) v.1.0 w.1.0 (tl.mirror (a - m) y ∙ v.1.1.1.0) w.1.1.1.0 in
       onto _ _ (j + k) (at_tt a c ha hc) (shorter (t.distance (a - m) (c - m)) (v.1.0 + w.1.0) (j + k) (tl.short (a - m) (c - m)) d (omega (arith, v.1.1.1.1, w.1.1.1.1))))
       (λ hb. onto _ _ (j + k) (at_tt a c ha hc) (tl.detour (a - m) (b - m) (c - m) j k (sym (at_tt a b ha hb) ∙ e) (sym (at_tt b c hb hc) ∙ f)))
-      (below_or_not b m))
+      (cases_lt b m))
 
   outside_right : (a b : ℕ) → m + t.stations ≤ b → far a b ≡ None
   outside_right a b h =
@@ -112,7 +113,7 @@ module _ (s t : Net) (sl : Lawful s) (tl : Lawful t) (x y : ℕ) where
       ⊎_elim
       (λ ha. at_st a b ha hb ∙ ap capped (plus_none (s.distance a x) (t.distance y (b - m)) (tl.outside y (b - m) (inr over))))
       (λ ha. at_tt a b ha hb ∙ tl.outside (a - m) (b - m) (inr over))
-      (below_or_not a m)
+      (cases_lt a m)
 
   outside : (a b : ℕ) → (m + t.stations ≤ a) ⊎ (m + t.stations ≤ b) → far a b ≡ None
   outside a b (inl h) = mirror a b ∙ outside_right b a h
@@ -131,7 +132,7 @@ module _ (s t : Net) (sl : Lawful s) (tl : Lawful t) (x y : ℕ) where
       ⊎_elim
       (λ h. at_ss a a h h ∙ sl.itself a h)
       (λ h. at_tt a a h h ∙ tl.itself (a - m) (omega arith))
-      (below_or_not a m)
+      (cases_lt a m)
 
   -- the cut at 1,000
   in_cut : (a b k : ℕ) → (cut_pairing s t x y).distance a b ≡ Some k → (a < most_stations) × ((b < most_stations) × (far a b ≡ Some k))

@@ -12,7 +12,7 @@ pub const LONGEST: u32 = 9_999;
 // the same as a figure of a distance table
 pub const LONGEST_FIGURE: u16 = LONGEST as u16;
 
-// the figure of a distance table that stands for no distance
+// the figure of a distance table that stands for no distance; figures are kept as they are lent, so an Option in each would be one copy more
 pub const NONE_FIGURE: u16 = 65_535;
 
 // the pipes of a pipe map

@@ -16,13 +16,14 @@ impl GridRef<'_> {
 
     fn is_beaten(&self, a: usize, b: usize, c: usize) -> bool
         requires { let n = self.now.count in (a < n) × ((b < n) × (c < n)) }
-        ensures { let broken = Beaten self.now.count self.now.figures.now a b c in MatchBool result broken (broken → ⊥) }
+        ensures { let beaten = Beaten self.now.count self.now.figures.now a b c in MatchBool result beaten (beaten → ⊥) }
     {
         let to = self.at(a, c);
         let from = self.at(c, b);
         to <= LONGEST_FIGURE && from <= LONGEST_FIGURE && to + from < self.at(a, b)
     }
 
+    // A detour over some station is shorter than the figure, or there where the figure is none.
     fn has_detour(&self, a: usize, b: usize) -> bool
         requires { let n = self.now.count in (a < n) × (b < n) }
         ensures { let n = self.now.count in let beaten = Beaten n self.now.figures.now a b in MatchBool result ((c : ℕ) × beaten c) ((c : ℕ) → c < n → beaten c → ⊥) }
@@ -51,7 +52,7 @@ impl GridRef<'_> {
     pub(super) fn first_lawless(&self) -> Option<usize>
         ensures { let n = self.now.count in First (λ i. BreaksLaw n self.now.figures.now (i / n) (i % n)) (length self.now.figures.now) result }
     {
-        // not by `position`: what its closure says of the law was not proved
+        // a loop, since what a closure of `position` says of the law was not proved
         for place in 0..self.figures.len() {
             if self.is_lawless(place) {
                 return Some(place);

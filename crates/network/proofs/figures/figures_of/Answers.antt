@@ -1,9 +1,9 @@
 use Rattle.std.proofs.Common.{◌≡◌, ℕ, ◌+◌, ◌*◌, ◌<◌, List, [], ◌∷◌, ◌++◌, length, vec_items, sym, ◌∙◌, subst, ⊎_elim, arith}
 use Rattle.std.proofs.lemmas.List.{get_or_append_left, get_or_push}
 use Rattle.std.proofs.lemmas.Nat.{div-mul-add, mod-mul-add}
+use Rattle.std.proofs.lemmas.Bool.{cases_lt}
 use Rattle.network.specs.Net.{Net}
 use Rattle.network.specs.Grid.{figure_of}
-use Rattle.network.specs.Nets.{below_or_not}
 use Rattle.network.specs.Grids.{tabulated}
 use Rattle.network.proofs.figures.figures_of.Invariants.{Told}
 use Rattle.network.proofs.figures.figures_of.Goals as goal
@@ -19,7 +19,7 @@ pushed net n a b x ws len hb is told k h =
     (λ m.
     let e : k ≡ a * n + b = omega arith in
     rw e (simp (div-mul-add a n b hb, mod-mul-add a n b hb) (get_or_push ws x 0 (a * n + b) len ∙ is)))
-    (below_or_not k (a * n + b))
+    (cases_lt k (a * n + b))
 
 pub loop-b-preserved : goal.loop-b-preserved
 loop-b-preserved g c =
