@@ -105,7 +105,7 @@ impl Book<Trunk> {
     }
 }
 
-// The figures of a book, each that of the plain book.
+// The figures of a book, each that of the plain book. The table has them too, since they are proved once there, for any source.
 impl<S: Source> Book<S> {
     // How many points are open, on both sides.
     pub fn points(&self) -> u32
