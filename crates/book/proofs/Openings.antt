@@ -1,5 +1,5 @@
 -- What the checks of an opening find, and what it leaves.
-use Rattle.std.proofs.Common.{◌≡◌, ℕ, zero, suc, ◌+◌, ◌<◌, ◌≤◌, Bool, true, false, cond, ◌⊎◌, List, [], ◌∷◌, ◌++◌, length, get_or, IfOk, None, Ok, Err, Result, sym, refl, ap, ◌∙◌, subst, inl, inr, arith}
+use Rattle.std.proofs.Common.{◌≡◌, ℕ, zero, suc, ◌+◌, ◌<◌, Bool, true, false, cond, ◌⊎◌, List, [], ◌∷◌, ◌++◌, length, get_or, None, Ok, Err, Result, sym, refl, ap, ◌∙◌, subst, inl, inr, arith}
 use mathlib.Core.List.Memᴰ
 use mathlib.Core.List.{Memᴰ}
 use Rattle.std.proofs.lemmas.List.{append-nil}
@@ -92,14 +92,6 @@ module _ (net : Net) (t : PointTable) (s : Side) (k : Kind) (at : ℕ) (fits : o
         told p sh (inl a) = inl (found t p sh s Lacking a.0, a.1)
         told p sh (inr (n, inl a)) = inr ((λ u. n (recorded t p sh s Lacking u)), inl (found t p sh s Straying a.0, a.1))
         told p sh (inr (n, inr z)) = absurd z.1
-
-pub made_all : {T E : Type 0} {P : Type 0} (r : Result T E) → P → IfOk r (λ _. P)
-made_all (Ok x) h = h
-made_all (Err e) h = tt
-
-pub most_le : (s : Side) → most_points s ≤ most_points Exit
-most_le Entry = omega arith
-most_le Exit = omega arith
 
 -- ---- the point more
 

@@ -42,6 +42,3 @@ module _ (net : Net) (at : ℕ) (rs : List PointRecord) (r : PointRecord) where
           | inr f ↦ Any-push (λ x. farthest < km (net.distance at x.station)) rs r (omega arith)
         ];
       }
-
-pub seen_none : (net : Net) (at : ℕ) → Seen net at [] 0
-seen_none net at = record { reached = λ k d l. absurd (omega arith); within = λ k d l. absurd (omega arith); strays = λ l. absurd (omega arith) }

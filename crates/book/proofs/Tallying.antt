@@ -33,9 +33,6 @@ tally_more s f xs i d l = tally_push s f (take i xs) (get_or xs i d) ∙ ap (tal
 pub plus_both : (s : Side) (k : Kind) (a w : Elements ℕ) (n : ℕ) → plus s k (both a w) n ≡ both a (plus s k w n)
 plus_both s k a w n = same_elements _ _ _ _ _ _ (omega arith) (omega arith) (omega arith)
 
-pub both_none : (a : Elements ℕ) → a ≡ both a no_weights
-both_none a = same_elements _ _ _ _ _ _ (omega arith) (omega arith) (omega arith)
-
 -- ---- bounds
 
 pub within_none : Within no_weights 0

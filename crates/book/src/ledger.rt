@@ -8,7 +8,7 @@ ghost use Rattle.book.specs.Follows.{opened, done, closed, drawn};
 ghost use Rattle.book.specs.Records.{record_lots};
 ghost use Rattle.book.specs.Shows.{held_in, row_of};
 ghost use Rattle.book.specs.Figures.{Sees, Recorded, seen_point};
-ghost use Rattle.book.specs.Law.{Stands, Keeps, Run, Founded};
+ghost use Rattle.book.specs.Law.{Stands, Standing, Keeps, Run, Founded};
 
 use crate::reading::Point;
 use crate::table::PointTable;
@@ -22,12 +22,14 @@ use terms::faults::BookFault;
 use terms::measures::{Dinars, Lots};
 use terms::points::{Kind, Side};
 
-// A tariff book over a distance source. It is made empty, and handled by its five calls and by nothing else.
+// A tariff book over a distance source. It is made empty, and handled by its five calls and by nothing else, so some calls lead to
+// its table.
 // A refused call changes nothing. No call allocates.
 #[derive(Drop)]
 pub struct Book<S: Source> {
     source: S,
     table: PointTable,
+    ghost stands: { Standing (S.Source.net source) table },
 }
 
 impl<S: Source> Book<S> {
@@ -105,7 +107,7 @@ impl Book<Trunk> {
     }
 }
 
-// The figures of a book, each that of the plain book.
+// The figures of a book, each that of the plain book. The table has them too, since they are proved once there, for any source.
 impl<S: Source> Book<S> {
     // How many points are open, on both sides.
     pub fn points(&self) -> u32

@@ -1,4 +1,4 @@
-use Rattle.std.proofs.Common.{◌+◌, get_or, take, vec_items, sym, refl, ◌∙◌, subst, rules}
+use Rattle.std.proofs.Common.{◌+◌, get_or, take, vec_items, sym, ◌∙◌, subst, rules}
 use Rattle.std.proofs.lemmas.List.{take_all}
 use Rattle.terms.specs.declared.points.Side.TheVariants.{Entry}
 use Rattle.terms.specs.declared.points.Kind.TheVariants.{Transmission}
@@ -12,9 +12,6 @@ use Rattle.book.proofs.ledger.replay.Goals as goal
 -- what stands past the calls
 abbrev past : Call
 past = Open Entry Transmission 0
-
-pub loop-call-init : goal.loop-call-init
-loop-call-init g c = (refl, c.new-outcomes.ensures.len, subst (λ s. Stands (g.S.Source.net s) _ c.new-book.result.table) (sym c.new-book.ensures.same) c.new-book.ensures.law)
 
 pub loop-call-preserved : goal.loop-call-preserved
 loop-call-preserved g c =

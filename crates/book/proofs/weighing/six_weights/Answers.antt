@@ -1,6 +1,5 @@
-use Rattle.std.proofs.Common.{◌+◌, ◌*◌, ◌<◌, ◌≤◌, length, get_or, take, sym, refl, ap, ◌∙◌, subst, arith, rules}
-use Rattle.std.proofs.lemmas.List.{take_all}
-use Rattle.std.proofs.lemmas.List.Sums.{sum_by-take-le, get_or-le-sum_by, sum_by_more}
+use Rattle.std.proofs.Common.{◌+◌, ◌*◌, ◌<◌, length, get_or, take, sym, refl, ap, ◌∙◌, subst, arith, rules}
+use Rattle.std.proofs.lemmas.List.Sums.{sum_by_more}
 use Rattle.terms.specs.declared.points.Side.TheVariants.{Entry, Exit}
 use Rattle.book.specs.Records.{record_lots, blank}
 use Rattle.book.specs.Shows.{held_in}
@@ -12,37 +11,6 @@ pub loop-entry-init : goal.loop-entry-init
 loop-entry-init g c =
     let net = g.S.Source.net c.args.source.now in
     (refl, within_none, none_other net Exit (held_in c.args.exits.now), within_none)
-
-pub weigh_against-reach-requires : goal.weigh_against-reach-requires
-weigh_against-reach-requires g c =
-    let entries = c.held-points.result.now in
-    let i = c.loop-entry.entry-index in
-    let w : c.loop-entry.entry-index < length c.held-points.result.now = search rules in
-    let h = c.held-points.ensures.light in
-    let t = sum_by-take-le (λ r. r.lots.0) entries i in
-    let o = get_or-le-sum_by (λ r. r.lots.0) entries i blank w in
-    record { few = within_le _ (most_reach * record_lots (take i entries)) _ (omega (arith, t, h)) c.loop-entry.invariant.3; lots = omega (arith, o, h) }
-
-pub overflow_mul-entry : goal.overflow_mul-entry
-overflow_mul-entry g c =
-    let entries = c.held-points.result.now in
-    let i = c.loop-entry.entry-index in
-    let w : c.loop-entry.entry-index < length c.held-points.result.now = search rules in
-    let h = c.held-points.ensures.light in
-    let o = get_or-le-sum_by (λ r. r.lots.0) entries i blank w in
-    let q = times_le (get_or entries i blank).lots.0 c.weigh_against-reach.result.0 most_reach c.weigh_against-reach.ensures.short in
-    search (rules, q)
-
-pub added-of_entries-requires : goal.added-of_entries-requires
-added-of_entries-requires g c =
-    let entries = c.held-points.result.now in
-    let i = c.loop-entry.entry-index in
-    let w : c.loop-entry.entry-index < length c.held-points.result.now = search rules in
-    let h = c.held-points.ensures.light in
-    let t = sum_by-take-le (λ r. r.lots.0) entries i in
-    let o = get_or-le-sum_by (λ r. r.lots.0) entries i blank w in
-    let q = times_le (get_or entries i blank).lots.0 c.weigh_against-reach.result.0 most_reach c.weigh_against-reach.ensures.short in
-    record { few = within_le _ (most_reach * record_lots (take i entries)) _ (omega (arith, t, h)) c.loop-entry.invariant.1; small = omega (arith, q, o, h) }
 
 pub loop-entry-preserved : goal.loop-entry-preserved
 loop-entry-preserved g c =
@@ -65,13 +33,3 @@ loop-entry-preserved g c =
       a.brought ∙ ap (λ s. both s (tally Exit (brought net e) exits)) c.loop-entry.invariant.2 ∙ other_more net (g.met.S.Source.lawful c.args.source.now) Exit exits entries i blank w,
       within_le _ (most_reach * record_lots (take i entries) + e.lots.0 * reach) _ (omega (arith, q, m)) (a.few (most_reach * record_lots (take i entries)) c.loop-entry.invariant.3),
     )
-
-pub returns : goal.returns
-returns g c =
-    let net = g.S.Source.net c.args.source.now in
-    let l : length c.held-points.result.now ≤ c.loop-entry.entry-index = search rules in
-    let e = take_all c.loop-entry.entry-index c.held-points.result.now l ∙ c.held-points.ensures.value in
-    record {
-      entries = c.loop-entry.invariant.0 ∙ ap (λ rs. record_weights net Entry rs (held_in c.args.exits.now)) e;
-      exits = c.loop-entry.invariant.2 ∙ ap (λ rs. record_weights net Exit (held_in c.args.exits.now) rs) e;
-    }

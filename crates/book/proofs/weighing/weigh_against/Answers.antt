@@ -1,28 +1,11 @@
-use Rattle.std.proofs.Common.{◌+◌, ◌*◌, ◌<◌, ◌≤◌, length, get_or, take, sym, refl, ap, ◌∙◌, subst, mul-add, arith, rules}
-use Rattle.std.proofs.lemmas.List.{take_all}
+use Rattle.std.proofs.Common.{◌+◌, ◌*◌, ◌<◌, ◌≤◌, length, get_or, take, sym, ap, ◌∙◌, subst, mul-add, arith, rules}
 use Rattle.std.proofs.lemmas.List.Sums.{sum_by_more}
 use Rattle.terms.specs.declared.points.Side.TheVariants.{Exit}
 use Rattle.rules.specs.Weights.{km}
 use Rattle.book.specs.Records.{blank}
 use Rattle.book.specs.Tallies.{tally, plus, both, record_load, record_reach, brought, Within, heaviest, most_reach}
-use Rattle.book.proofs.Tallying.{tally_more, within_le, plus_within, plus_both, both_none, load_few, reach_few, times_le}
+use Rattle.book.proofs.Tallying.{tally_more, within_le, plus_within, plus_both, load_few, reach_few, times_le}
 use Rattle.book.proofs.weighing.weigh_against.Goals as goal
-
-pub loop-exit-init : goal.loop-exit-init
-loop-exit-init g c = (refl, both_none c.args.before, λ b h. within_le _ b _ (omega arith) h)
-
-pub overflow_mul-part : goal.overflow_mul-part
-overflow_mul-part g c =
-    let net = g.S.Source.net c.args.source.now in
-    let lawful = g.met.S.Source.lawful c.args.source.now in
-    let from = c.args.from in
-    let exits = c.held-points.result.now in
-    let i = c.loop-exit.exit-index in
-    let w : c.loop-exit.exit-index < length c.held-points.result.now = search rules in
-    let d = c.length_of.ensures ∙ ap km c.distance.ensures in
-    let x = get_or exits i blank in
-    let p : x.lots.0 * c.length_of.result ≤ most_reach = subst (λ n. x.lots.0 * n ≤ most_reach) (sym d) (load_few net lawful from.station exits i w c.held-points.ensures.light) in
-    search (rules, p)
 
 pub overflow_add-reach : goal.overflow_add-reach
 overflow_add-reach g c =
@@ -37,21 +20,6 @@ overflow_add-reach g c =
     let r = ap (λ n. n + x.lots.0 * c.length_of.result) c.loop-exit.invariant.0 ∙ ap (λ n. record_reach net from.station (take i exits) + x.lots.0 * n) d ∙ sym (sum_by_more (record_load net from.station) exits i blank w) in
     let b = reach_few net lawful from.station exits (i + 1) c.held-points.ensures.light in
     search (rules, r, b)
-
-pub overflow_mul-from : goal.overflow_mul-from
-overflow_mul-from g c =
-    let net = g.S.Source.net c.args.source.now in
-    let lawful = g.met.S.Source.lawful c.args.source.now in
-    let from = c.args.from in
-    let exits = c.held-points.result.now in
-    let i = c.loop-exit.exit-index in
-    let w : c.loop-exit.exit-index < length c.held-points.result.now = search rules in
-    let d = c.length_of.ensures ∙ ap km c.distance.ensures in
-    let x = get_or exits i blank in
-    let p : x.lots.0 * c.length_of.result ≤ most_reach = subst (λ n. x.lots.0 * n ≤ most_reach) (sym d) (load_few net lawful from.station exits i w c.held-points.ensures.light) in
-    let q = times_le from.lots.0 (x.lots.0 * c.length_of.result) most_reach p in
-    let l = c.requires.lots in
-    search (rules, q)
 
 pub added-weights-requires : goal.added-weights-requires
 added-weights-requires g c =
@@ -94,18 +62,8 @@ loop-exit-preserved g c =
           (within_le _ (b + from.lots.0 * c.loop-exit.reach + from.lots.0 * (x.lots.0 * c.length_of.result)) _ (omega (arith, mul-add from.lots.0 c.loop-exit.reach (x.lots.0 * c.length_of.result))) (plus_within Exit x.kind c.loop-exit.weights _ _ (c.loop-exit.invariant.2 b h))),
     )
 
-pub returns : goal.returns
-returns g c =
-    let net = g.S.Source.net c.args.source.now in
-    let from = c.args.from in
-    let exits = c.held-points.result.now in
-    let l : length c.held-points.result.now ≤ c.loop-exit.exit-index = search rules in
-    let e = take_all c.loop-exit.exit-index exits l ∙ c.held-points.ensures.value in
+pub returns-clause-short : goal.returns-clause-short
+returns-clause-short g c =
     let r = c.loop-exit.invariant.0 in
-    let b = reach_few net (g.met.S.Source.lawful c.args.source.now) from.station exits c.loop-exit.exit-index c.held-points.ensures.light in
-    record {
-      reach = r ∙ ap (record_reach net from.station) e;
-      short = omega (arith, r, b);
-      brought = c.loop-exit.invariant.1 ∙ ap (λ rs. both c.args.before (tally Exit (brought net from) rs)) e;
-      few = c.loop-exit.invariant.2;
-    }
+    let b = reach_few (g.S.Source.net c.args.source.now) (g.met.S.Source.lawful c.args.source.now) c.args.from.station c.held-points.result.now c.loop-exit.exit-index c.held-points.ensures.light in
+    omega (arith, r, b)

@@ -1,6 +1,9 @@
-use Rattle.std.proofs.Common.{refl}
+use Rattle.std.proofs.Common.{[]}
 use Rattle.book.proofs.Runs.{stands_empty}
 use Rattle.book.proofs.ledger.Book.new.Goals as goal
 
-pub returns : goal.returns
-returns g c = record { same = refl; law = stands_empty _ (g.met.S.Source.lawful c.args.source) _ c.new.ensures }
+pub returns-clause-law : goal.returns-clause-law
+returns-clause-law g c = stands_empty _ (g.met.S.Source.lawful c.args.source) _ c.new.ensures
+
+pub invariant_of-result : goal.invariant_of-result
+invariant_of-result g c = record { stands = ∣ ([], stands_empty _ (g.met.S.Source.lawful c.args.source) _ c.new.ensures) ∣₁ }

@@ -1,10 +1,16 @@
-use Rattle.std.proofs.Common.{refl}
 use Rattle.rules.specs.declared.calls.Answer.TheVariants.{Done}
-use Rattle.book.proofs.Runs.{keeps}
+use Rattle.book.proofs.Runs.{keeps, stood}
 use Rattle.book.proofs.ledger.Book.relieve.Goals as goal
 
-pub returns : goal.returns
-returns g c =
+pub returns-clause-keeps : goal.returns-clause-keeps
+returns-clause-keeps g c =
     let net = g.S.Source.net c.args.self.now.source in
     let e = c.relieve.ensures in
-    record { same = refl; keeps = keeps net (g.met.S.Source.lawful c.args.self.now.source) (λ _. Done) _ _ _ _ e.kept (e.step net) }
+    keeps net (g.met.S.Source.lawful c.args.self.now.source) (λ _. Done) _ _ _ _ e.kept (e.step net)
+
+pub invariant_of-self : goal.invariant_of-self
+invariant_of-self g c =
+    let net = g.S.Source.net c.args.self.now.source in
+    let lawful = g.met.S.Source.lawful c.args.self.now.source in
+    let e = c.relieve.ensures in
+    record { stands = stood net lawful _ _ _ _ (keeps net lawful (λ _. Done) _ _ _ _ e.kept (e.step net)) c.args.self.now.stands }

@@ -1,6 +1,5 @@
-use Rattle.std.proofs.Common.{◌≡◌, ◌<◌, length, get_or, Some, None, sym, refl, ap, ◌∙◌, subst, inl, inr, arith}
+use Rattle.std.proofs.Common.{◌≡◌, get_or, Some, None, refl, ap, ◌∙◌, inl, inr, arith}
 use Rattle.std.proofs.lemmas.Result.{err_from_is_err_and}
-use Rattle.std.proofs.lemmas.List.Sums.{get_or-le-sum_by}
 use Rattle.terms.specs.declared.faults.BookFault.TheVariants.{NoPoint}
 use Rattle.book.specs.Records.{record_lots, blank}
 use Rattle.book.specs.Shows.{held_in}
@@ -15,18 +14,6 @@ returns-in_err-side-clause-checked c =
     let none : c.locate.result ≡ None = grind (arith, v, w) in
     let told : c.in_err-side.field-0.0 ≡ NoPoint = grind (arith, v, w, none) in
     rw (e.1, e.2, told) (λ net p sh. inl (past c.args.self.now p sh c.args.point (rw none at c.locate.ensures), refl))
-
-pub overflow_sub-others : goal.overflow_sub-others
-overflow_sub-others c =
-    let v = c.in_ok-side.ensures.value in
-    let w = c.in_ok-side.was in
-    let some : c.locate.result ≡ Some (c.in_ok-side.side, c.in_ok-side.at) = grind (arith, v, w) in
-    let found = rw some at c.locate.ensures in
-    let h = c.held.ensures.value in
-    let e = h ∙ ap held_in c.row-row.ensures in
-    let l = subst (λ rs. c.in_ok-side.at < length rs) (sym e) found.0 in
-    let a = get_or-le-sum_by (λ r. r.lots.0) c.held.result.now c.in_ok-side.at blank l in
-    omega (arith, a, c.lots.ensures.value, ap record_lots h)
 
 pub returns-then-lots-others-clause-checked : goal.returns-then-lots-others-clause-checked
 returns-then-lots-others-clause-checked c =
@@ -44,8 +31,8 @@ returns-then-lots-others-clause-checked c =
       inl (overplanned t p sh c.in_ok-side.side c.in_ok-side.at c.args.point found c.args.lots (omega (arith, k, b)), refl),
     )
 
-pub returns : goal.returns
-returns c =
+pub returns-clause-checked : goal.returns-clause-checked
+returns-clause-checked c =
     let t = c.args.self.now in
     let v = c.in_ok-side.ensures.value in
     let w = c.in_ok-side.was in
@@ -55,10 +42,7 @@ returns c =
     let e = c.held.ensures.value ∙ row in
     let k = lots_replanned t c.in_ok-side.side c.in_ok-side.at c.args.lots.0 _ _ found.0 (ap (λ rs. (get_or rs c.in_ok-side.at blank).lots.0) e) (c.lots.ensures.value ∙ ap record_lots row) in
     let b = c.lots.ensures.bound in
-    record {
-      checked = λ net p sh. (
-        known t p sh c.in_ok-side.side c.in_ok-side.at c.args.point found,
-        (not_overplanned t p sh c.in_ok-side.side c.in_ok-side.at c.args.point found c.args.lots (omega (arith, k, b)), tt),
-      );
-      place = record { place = found; light = omega (arith, k, b) };
-    }
+    λ net p sh. (
+      known t p sh c.in_ok-side.side c.in_ok-side.at c.args.point found,
+      (not_overplanned t p sh c.in_ok-side.side c.in_ok-side.at c.args.point found c.args.lots (omega (arith, k, b)), tt),
+    )

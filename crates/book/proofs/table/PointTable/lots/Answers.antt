@@ -4,7 +4,5 @@ use Rattle.book.specs.Shows.{held_in}
 use Rattle.book.proofs.Showing.{side_lots}
 use Rattle.book.proofs.table.PointTable.lots.Goals as goal
 
-pub returns : goal.returns
-returns c =
-    let v = c.lots.ensures.value ∙ ap (λ row. record_lots (held_in row)) c.row.ensures in
-    record { value = v; figure = λ p sh. v ∙ side_lots c.args.self.now p sh c.args.side }
+pub returns-clause-figure : goal.returns-clause-figure
+returns-clause-figure c = λ p sh. c.lots.ensures.value ∙ ap (λ row. record_lots (held_in row)) c.row.ensures ∙ side_lots c.args.self.now p sh c.args.side
