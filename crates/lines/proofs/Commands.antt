@@ -1,6 +1,5 @@
 -- What the words of a line ask.
-use Rattle.std.proofs.Common.{◌≡◌, ℕ, ◌<◌, ◌≤◌, true, List, [], map, length, get_or, Ok, Err, Result, sym, ap, ◌∙◌, arith}
-use Rattle.std.proofs.lemmas.List.{get_or-map}
+use Rattle.std.proofs.Common.{◌≡◌, ℕ, ◌≤◌, true, List, map, length, Ok, Err, Result, ap, ◌∙◌, arith}
 use Rattle.std.proofs.lemmas.Bool.{le-leb}
 use Rattle.revenue.specs.declared.figures.Figures.{Figures}
 use Rattle.lines.specs.declared.faults.SheetFault.{SheetFault}
@@ -24,6 +23,3 @@ module _ (n : ℕ) (l : RawLine) (bytes : Text) (v ws : List Word) (ended : (raw
 
   pub well_read : (c : Command) (r : Result Figures SheetFault) → Ok c ≡ command_of n (map text_of ws) → r ≡ figures_of n c → r ≡ read_close n (raw_of l)
   well_read c r e k = k ∙ ap (λ x. bind x (figures_of n)) e ∙ from_words
-
-pub word_text : (ws : List Word) (i : ℕ) (d : Word) → i < length ws → text_of (get_or ws i d) ≡ get_or (map text_of ws) i []
-word_text ws i d h = sym (get_or-map text_of ws i _ _ h)

@@ -8,12 +8,12 @@ use crate::faults::SheetFault;
 use crate::words::Word;
 
 // The figures of a closing.
-pub(crate) const CLOSING_FIGURES: usize = 12;
+const CLOSING_FIGURES: usize = 12;
 
 // Each case keeps its words as parts of the sheet. Close has one for each of its twelve figures.
 #[derive(Clone, Copy)]
 pub enum Line<'a> {
-    Close(&'a [Word<'a>; CLOSING_FIGURES]),
+    Close(&'a [Word<'a>]),
 }
 
 // The first words.
@@ -37,10 +37,8 @@ fn shape<'a>(verb: Verb, words: &'a [Word<'a>], n: usize) -> Result<Line<'a>, Sh
     ensures asks { meant result ≡ asked n verb (map text_of words.now) }
 {
     match verb {
-        Verb::Close => words
-            .as_array()
-            .map(Line::Close)
-            .ok_or(SheetFault::WordCount(n)),
+        Verb::Close if words.len() == CLOSING_FIGURES => Ok(Line::Close(words)),
+        Verb::Close => Err(SheetFault::WordCount(n)),
     }
 }
 

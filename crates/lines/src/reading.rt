@@ -5,17 +5,18 @@ ghost use Rattle.lines.specs.Meant.{meaning};
 ghost use Rattle.std.specs.Option.{ok_or};
 ghost use Rattle.lines.specs.declared.faults.SheetFault.TheVariants.{BadNumber};
 ghost use Rattle.lines.specs.Numbers.{number_of, signed_of};
-ghost use Rattle.lines.specs.Reading.{closing_of, figures_of, read_close, sheet_fits, DueOrNoMemory};
+ghost use Rattle.lines.specs.Reading.{figure_word, closing_of, figures_of, read_close, sheet_fits, DueOrNoMemory};
 ghost use Rattle.lines.specs.Seen.{text_of, raw_of};
 
 use crate::faults::SheetFault;
-use crate::line::{CLOSING_FIGURES, Line, parse};
+use crate::line::{Line, parse};
 use crate::numbers::{number, signed};
 use crate::raw::RawLine;
 use crate::words::{Word, words_of};
 use revenue::figures::Figures;
 use revenue::units::{HundredThousandths, HundredthsOfPercent, MegawattHours, ParasPerKwh};
 use std::alloc::Global;
+use terms::faults::ClosingFigure;
 use terms::measures::Dinars;
 
 // The bytes of a sheet.
@@ -33,56 +34,44 @@ pub fn check_sheet(sheet: &[u8]) -> Result<(), SheetFault>
     Ok(())
 }
 
-// A figure of line `n`.
-fn figure(word: Word<'_>, n: usize) -> Result<u64, SheetFault>
-    ensures { result ≡ ok_or (number_of (text_of word.entry)) (BadNumber n) }
+// The word that writes a figure, or the empty word past the last.
+fn word_of<'a>(words: &[Word<'a>], which: ClosingFigure) -> &'a [u8]
+    ensures { result.now ≡ figure_word (map text_of words.now) which }
 {
-    number(word.text)
-        .map(u64::from)
-        .ok_or(SheetFault::BadNumber(n))
+    words.get(which.number() - 1).map_or(&[], |word| word.text)
+}
+
+// A figure of line `n`.
+fn figure(word: &[u8], n: usize) -> Result<u64, SheetFault>
+    ensures { result ≡ ok_or (number_of word.now) (BadNumber n) }
+{
+    number(word).map(u64::from).ok_or(SheetFault::BadNumber(n))
 }
 
 // A figure that may bear a minus: another reader and another number, which is no plainer as one function with `figure`.
-fn signed_figure(word: Word<'_>, n: usize) -> Result<i64, SheetFault>
-    ensures { result ≡ ok_or (signed_of (text_of word.entry)) (BadNumber n) }
+fn signed_figure(word: &[u8], n: usize) -> Result<i64, SheetFault>
+    ensures { result ≡ ok_or (signed_of word.now) (BadNumber n) }
 {
-    signed(word.text)
-        .map(i64::from)
-        .ok_or(SheetFault::BadNumber(n))
+    signed(word).map(i64::from).ok_or(SheetFault::BadNumber(n))
 }
 
 // The figures of a closing, read from the left.
-#[tactic(auto, using(crate::proofs::Commands::word_text))]
-fn closing(words: &[Word<'_>; CLOSING_FIGURES], n: usize) -> Result<Figures, SheetFault>
+fn closing(words: &[Word<'_>], n: usize) -> Result<Figures, SheetFault>
     ensures { result ≡ closing_of n (map text_of words.now) }
 {
-    let [
-        operating,
-        depreciation,
-        assets,
-        rate,
-        delivered,
-        loss,
-        price,
-        nonstandard,
-        other,
-        justified,
-        realised,
-        index,
-    ] = *words;
     Ok(Figures {
-        operating: Dinars(figure(operating, n)?),
-        depreciation: Dinars(figure(depreciation, n)?),
-        assets: Dinars(figure(assets, n)?),
-        rate: HundredthsOfPercent(figure(rate, n)?),
-        delivered: MegawattHours(figure(delivered, n)?),
-        loss: HundredThousandths(figure(loss, n)?),
-        price: ParasPerKwh(figure(price, n)?),
-        nonstandard: Dinars(figure(nonstandard, n)?),
-        other: Dinars(figure(other, n)?),
-        justified: Dinars(figure(justified, n)?),
-        realised: Dinars(figure(realised, n)?),
-        index: HundredthsOfPercent(signed_figure(index, n)?),
+        operating: Dinars(figure(word_of(words, ClosingFigure::Operating), n)?),
+        depreciation: Dinars(figure(word_of(words, ClosingFigure::Depreciation), n)?),
+        assets: Dinars(figure(word_of(words, ClosingFigure::Assets), n)?),
+        rate: HundredthsOfPercent(figure(word_of(words, ClosingFigure::Rate), n)?),
+        delivered: MegawattHours(figure(word_of(words, ClosingFigure::Delivered), n)?),
+        loss: HundredThousandths(figure(word_of(words, ClosingFigure::Loss), n)?),
+        price: ParasPerKwh(figure(word_of(words, ClosingFigure::GasPrice), n)?),
+        nonstandard: Dinars(figure(word_of(words, ClosingFigure::NonStandard), n)?),
+        other: Dinars(figure(word_of(words, ClosingFigure::OtherRevenue), n)?),
+        justified: Dinars(figure(word_of(words, ClosingFigure::Justified), n)?),
+        realised: Dinars(figure(word_of(words, ClosingFigure::Realised), n)?),
+        index: HundredthsOfPercent(signed_figure(word_of(words, ClosingFigure::Index), n)?),
     })
 }
 
