@@ -1,4 +1,4 @@
-// The figures of a square of stations, row by row.
+// The figures of a square of stations, row by row. Rows and columns are asked in range, as an index of a slice is.
 ghost use Rattle.std.specs.Prelude.{◌≡◌, ℕ, ◌+◌, ◌*◌, ◌<◌, ◌≤◌, length, vec_len, if◌then◌else◌, nat_eq, IfOk, slice_set};
 ghost use Rattle.network.specs.Limits.{bottom_stations, none_figure};
 ghost use Rattle.network.specs.Grid.{at};
@@ -6,7 +6,8 @@ ghost use Rattle.network.specs.Grid.{at};
 use crate::limits::NONE_FIGURE;
 use std::alloc::{AllocError, Global};
 
-// Lent figures.
+// Lent figures. A type beside `Grid`, since they are looked at before memory is asked for own ones; one generic type would name the
+// figures of either through a trait in every clause.
 #[derive(Clone, Copy)]
 pub(crate) struct GridRef<'a> {
     pub(crate) count: usize,

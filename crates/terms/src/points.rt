@@ -61,7 +61,7 @@ impl fmt::Display for Side {
 }
 
 impl Kind {
-    // Whether a side has points of this kind.
+    // Whether a side has points of this kind. Side and kind stay two values in calls: a type of pairs that fit could not be refused.
     pub fn is_of(self, side: Side) -> bool
         ensures { result ≡ of_side side self }
     {

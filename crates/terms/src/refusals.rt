@@ -8,7 +8,7 @@ pub enum Part {
     Sheet,
 }
 
-// The number of the rule that was broken, the part that says so, and the place: an index, a figure's number, a line, or 0 where the rule names none.
+// The number of the rule that was broken (a number, since it is printed as one; the faults are enums), the part that says so, and the place: an index, a figure's number, a line, or 0 where the rule names none.
 #[derive(Clone, Copy, PartialEq, Eq, Debug)]
 pub struct Refusal {
     pub number: u32,

@@ -1,4 +1,4 @@
-//! The work of `timing`, exported to C. A `Global` takes no bytes, so a C caller passes nothing for it.
+//! The work of `timing`, exported to C: an export has a body and a name of its own. A `Global` takes no bytes, so a C caller passes nothing for it.
 #![tactic(auto)]
 
 ghost use Rattle.std.specs.Prelude.{◌*◌, ◌≤◌};

@@ -70,7 +70,7 @@ impl Approved {
         Ok(short_price(tariff, product, multiplier, Year::GAS))
     }
 
-    // The price of an element's capacity for a product, at a multiplier in hundredths.
+    // The price of an element's capacity for a product, at a multiplier in hundredths, which is given with the price and is no part of the product.
     pub fn price(
         &self,
         side: Side,
