@@ -41,7 +41,8 @@ fn three_links(heap: Global) -> Result<Link<Link<Link<PipeMap>>>, SourceFault> {
     Ok(three)
 }
 
-// The sum of so many distances, between one pair of stations after another.
+// The sum of so many distances, between one pair of stations after another. A loop, since the check did not find that the `sum` of a
+// chain fits.
 fn ask<S: Source>(source: &S, turns: u32) -> u64
     ensures { result ≤ longest * turns }
 {
