@@ -56,7 +56,8 @@ impl fmt::Display for Side {
     ghost output = { λ side. Some (side_letter side ∷ []) };
 
     fn fmt<W: fmt::Write>(&self, f: &mut fmt::Formatter<W>) -> fmt::Result {
-        f.write_char(char::from(*self))
+        let side = *self;
+        f.write_char(char::from(side))
     }
 }
 
@@ -65,14 +66,12 @@ impl Kind {
     pub fn is_of(self, side: Side) -> bool
         ensures { result ≡ of_side side self }
     {
-        match (side, self) {
-            (_, Kind::Storage) => true,
-            (Side::Entry, Kind::Transmission) => true,
-            (Side::Entry, Kind::Production) => true,
-            (Side::Exit, Kind::Local) => true,
-            (Side::Exit, Kind::Interconnector) => true,
-            _ => false,
-        }
+        matches!(
+            (side, self),
+            (_, Kind::Storage)
+                | (Side::Entry, Kind::Transmission | Kind::Production)
+                | (Side::Exit, Kind::Local | Kind::Interconnector)
+        )
     }
 }
 
@@ -112,6 +111,7 @@ impl fmt::Display for Kind {
     ghost output = { λ kind. Some (kind_letter kind ∷ []) };
 
     fn fmt<W: fmt::Write>(&self, f: &mut fmt::Formatter<W>) -> fmt::Result {
-        f.write_char(char::from(*self))
+        let kind = *self;
+        f.write_char(char::from(kind))
     }
 }

@@ -8,7 +8,8 @@ pub enum Part {
     Sheet,
 }
 
-// The number of the rule that was broken (a number, since it is printed as one; the faults are enums), the part that says so, and the place: an index, a figure's number, a line, or 0 where the rule names none.
+// The number of the rule that was broken, the part that says so, and the place: an index, a figure's number or a line. They are numbers,
+// since they are printed and compared as such (the faults are enums), and 0 where the rule names no place, or no rule is broken.
 #[derive(Clone, Copy, PartialEq, Eq, Debug)]
 pub struct Refusal {
     pub number: u32,

@@ -11,9 +11,8 @@ sum_is n d e k p h = ap (λ x. n / d + x) h ∙ ap (λ x. n / x + carry (n / x) 
 
 pub overflow_add-result : goal.overflow_add-result
 overflow_add-result c =
-    let some : 0 < c.get-d.result = c.get-d.ensures.nonzero in
     let fits : c.args.n < 2 ^ 64 = omega arith in
-    let sum = carried_fits _ _ _ _ some (mod-lt _ some) fits c.half_up.ensures in
+    let sum = carried_fits _ _ _ _ (omega arith) (mod-lt _ (omega arith)) fits c.half_up.ensures in
     omega arith
 
 pub returns : goal.returns
