@@ -13,15 +13,13 @@ use terms::measures::Km;
 
 fn linked(heap: Global) -> Result<Link<Trunk>, SourceFault> {
     let trunk = Trunk::new(heap, &[0, 40, 100])?;
-    let link = Link::new(trunk, 0, 2, Km(70))?;
-    Ok(link)
+    Ok(Link::new(trunk, 0, 2, Km(70))?)
 }
 
 fn paired(heap: Global) -> Result<Pairing<Trunk, Trunk>, SourceFault> {
     let first = Trunk::new(heap, &[0, 40, 100])?;
     let second = Trunk::new(heap, &[0, 25])?;
-    let pairing = Pairing::new(first, second, 2, 0)?;
-    Ok(pairing)
+    Ok(Pairing::new(first, second, 2, 0)?)
 }
 
 // A ring of four stations, and a fifth that no pipe reaches.
@@ -43,8 +41,7 @@ fn pile(heap: Global) -> Result<Link<Pairing<Trunk, PipeMap>>, SourceFault> {
     let trunk = Trunk::new(heap, &[0, 40])?;
     let map = PipeMap::new(heap, 2, &[pipe(0, 1, 30)])?;
     let pairing = Pairing::new(trunk, map, 1, 0)?;
-    let link = Link::new(pairing, 0, 3, Km(50))?;
-    Ok(link)
+    Ok(Link::new(pairing, 0, 3, Km(50))?)
 }
 
 #[test]

@@ -1,5 +1,5 @@
 // Each refusal of a source, at its edge.
-use crate::tables::{fault, layer_fault, pipe};
+use crate::tables::{layer_fault, pipe};
 use network::link::Link;
 use network::map::PipeMap;
 use network::pairing::Pairing;
@@ -19,22 +19,17 @@ struct Case<'a, T>(u32, &'a [T], Option<SourceFault>);
 #[test]
 fn a_trunk_has_1_to_64_stations_at_up_to_9999_km(rt: HostRuntime) {
     let many = [7; 65];
-    let cases = [
-        Case(0, &[], Some(SourceFault::WrongCount)),
-        Case(1, &[7], None),
-        Case(64, &many[0..64], None),
-        Case(65, &many, Some(SourceFault::WrongCount)),
-        Case(2, &[0, 9_999], None),
-        Case(
-            4,
-            &[0, 9_999, 10_000, 10_001],
-            Some(SourceFault::BadFigure(2)),
-        ),
-        Case(1, &[70_000], Some(SourceFault::BadFigure(0))),
+    let cases: [(&[u32], Option<SourceFault>); 7] = [
+        (&[], Some(SourceFault::WrongCount)),
+        (&[7], None),
+        (&many[0..64], None),
+        (&many, Some(SourceFault::WrongCount)),
+        (&[0, 9_999], None),
+        (&[0, 9_999, 10_000, 10_001], Some(SourceFault::BadFigure(2))),
+        (&[70_000], Some(SourceFault::BadFigure(0))),
     ];
-    for case in &cases {
-        assert_eq!(rt; case.1.len(), case.0 as usize);
-        assert_eq!(rt; fault(Trunk::new(rt.alloc(), case.1)), case.2);
+    for (positions, refusal) in cases {
+        assert_eq!(rt; Trunk::new(rt.alloc(), positions).err(), refusal);
     }
 }
 
@@ -50,7 +45,7 @@ fn a_table_has_a_row_for_each_of_1_to_64_stations(rt: HostRuntime) {
     ];
     for case in &cases {
         assert_eq!(rt;
-            fault(DistanceTable::new(rt.alloc(), case.0, case.1)),
+            DistanceTable::new(rt.alloc(), case.0, case.1).err(),
             case.2
         );
     }
@@ -80,7 +75,7 @@ fn a_figure_is_a_distance_or_none_and_then_keeps_the_laws(rt: HostRuntime) {
     ];
     for case in &cases {
         assert_eq!(rt;
-            fault(DistanceTable::new(rt.alloc(), case.0, case.1)),
+            DistanceTable::new(rt.alloc(), case.0, case.1).err(),
             case.2
         );
     }
@@ -97,7 +92,7 @@ fn a_map_has_1_to_64_stations_and_at_most_200_pipes(rt: HostRuntime) {
         Case(65, &[], Some(SourceFault::WrongCount)),
     ];
     for case in &cases {
-        assert_eq!(rt; fault(PipeMap::new(rt.alloc(), case.0, case.1)), case.2);
+        assert_eq!(rt; PipeMap::new(rt.alloc(), case.0, case.1).err(), case.2);
     }
 }
 
@@ -113,11 +108,11 @@ fn a_pipe_joins_two_different_stations_over_1_to_9999_km(rt: HostRuntime) {
     ];
     for p in &bad {
         assert_eq!(rt;
-            fault(PipeMap::new(rt.alloc(), 3, &[good, *p])),
+            PipeMap::new(rt.alloc(), 3, &[good, *p]).err(),
             Some(SourceFault::BadFigure(1))
         );
     }
-    assert_eq!(rt; fault(PipeMap::new(rt.alloc(), 3, &[good])), None);
+    assert_eq!(rt; PipeMap::new(rt.alloc(), 3, &[good]).err(), None);
 }
 
 #[test]
@@ -166,16 +161,14 @@ fn two(heap: Global) -> Result<Two, SourceFault> {
 }
 
 fn four(heap: Global) -> Result<Four, SourceFault> {
-    let pairing = Pairing::new(two(heap)?, two(heap)?, 0, 0)?;
-    Ok(pairing)
+    Ok(Pairing::new(two(heap)?, two(heap)?, 0, 0)?)
 }
 
 // 896 stations.
 fn fourteen(heap: Global) -> Result<Fourteen, SourceFault> {
     let eight = Pairing::new(four(heap)?, four(heap)?, 0, 0)?;
     let six = Pairing::new(four(heap)?, two(heap)?, 0, 0)?;
-    let pairing = Pairing::new(eight, six, 0, 0)?;
-    Ok(pairing)
+    Ok(Pairing::new(eight, six, 0, 0)?)
 }
 
 #[test]

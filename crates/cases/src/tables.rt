@@ -26,11 +26,7 @@ pub(crate) fn pipe(from: u32, to: u32, length: u32) -> Pipe {
     }
 }
 
-// The fault, where there is one.
-pub(crate) fn fault<T: Drop>(made: Result<T, SourceFault>) -> Option<SourceFault> {
-    made.err()
-}
-
+// The fault of a refused layer, where there is one.
 pub(crate) fn layer_fault<T: Drop, S: Drop>(
     made: Result<T, RefusedLayer<S>>,
 ) -> Option<SourceFault> {

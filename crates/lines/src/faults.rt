@@ -7,7 +7,7 @@ use std::alloc::AllocError;
 use terms::faults::{BookFault, Fault};
 use terms::refusals::{Part, Refusal};
 
-// Each fault of the sheet's own tells its line.
+// Each fault of the sheet's own tells its line, so a line's number goes with it to all that judges it.
 #[derive(Clone, Copy, PartialEq, Eq, Debug)]
 pub enum SheetFault {
     Book(BookFault),

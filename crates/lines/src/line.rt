@@ -10,7 +10,8 @@ use crate::words::Word;
 // The figures of a closing.
 const CLOSING_FIGURES: usize = 12;
 
-// Each case keeps its words as parts of the sheet. Close has one for each of its twelve figures.
+// Each case keeps its words as parts of the sheet. Those of a closing are a slice and no array of twelve, which would ask more of who
+// makes a line than is asked here; `parse` gives twelve.
 #[derive(Clone, Copy)]
 pub enum Line<'a> {
     Close(&'a [Word<'a>]),

@@ -52,7 +52,7 @@ pub fn signed(w: &[u8]) -> Option<i32>
     ensures law { Reads WritesSigned w.now result }
 {
     match w {
-        [MINUS, digits @ ..] => negative(digits),
+        [MINUS, rest @ ..] => negative(rest),
         _ => number(w).map(|n| n as i32),
     }
 }

@@ -14,6 +14,7 @@ mod lines;
 mod prices;
 
 // Six shares and tariffs that are not yet approved. Nothing is priced or printed from a draft.
+// The bound of the tariffs stands here: a bounded type in the figures themselves would ask more of who makes figures.
 #[derive(Drop)]
 pub struct Draft {
     figures: TariffFigures,

@@ -13,7 +13,7 @@ use crate::figures::Closing;
 use terms::faults::BookFault;
 use terms::measures::Dinars;
 
-// The largest allowed revenue, in thousands of dinars.
+// The largest allowed revenue, in thousands of dinars. It is pricing's largest amount too; the two crates do not know one another.
 const MOST_ALLOWED: u64 = 10_000_000;
 
 // A base, the correction, and what is due to be taken in: the correction and what was carried.

@@ -49,6 +49,7 @@ fn take_line(
             write!(out, "{closed}")?;
             Ok(Carried::new(closing.rest).unwrap())
         }
+        // the one fault that is no refusal of the line
         Err(SheetFault::NoMemory) => Err(AllocError),
         Err(fault) => {
             let refused = Refused {

@@ -41,8 +41,7 @@ fn network(heap: Global) -> Result<Link<Pairing<Trunk, PipeMap>>, SourceFault> {
     ];
     let map = PipeMap::new(heap, 4, &pipes)?;
     let pairing = Pairing::new(trunk, map, 2, 0)?;
-    let link = Link::new(pairing, 0, 5, Km(70))?;
-    Ok(link)
+    Ok(Link::new(pairing, 0, 5, Km(70))?)
 }
 
 pub(crate) fn show_distances(rt: &HostRuntime) -> anyhow::Result<()> {

@@ -9,6 +9,7 @@ use pricing::figures::{SideFigures, TariffFigures};
 use revenue::figures::Figures;
 use revenue::units::{HundredThousandths, HundredthsOfPercent, MegawattHours, ParasPerKwh};
 use rules::calls::{Answer, Call};
+use sheet::print::Closed;
 use std::alloc::Global;
 use std::io;
 use terms::faults::{BookFault, Fault, SourceFault};
@@ -22,8 +23,7 @@ fn grid(heap: Global) -> Result<Grid, SourceFault> {
     let first = Trunk::new(heap, &[0, 40, 100])?;
     let second = Trunk::new(heap, &[0, 25])?;
     let pairing = Pairing::new(first, second, 2, 0)?;
-    let link = Link::new(pairing, 0, 2, Km(70))?;
-    Ok(link)
+    Ok(Link::new(pairing, 0, 2, Km(70))?)
 }
 
 fn period() -> Figures {
@@ -63,9 +63,7 @@ fn print_outcome(rt: &HostRuntime, outcome: Result<Answer, BookFault>) -> io::Re
     match outcome {
         Ok(Answer::Opened(number)) => println!(rt; "opened {number}"),
         Ok(Answer::Done) => println!(rt; "done"),
-        Ok(Answer::Closed(closing)) => {
-            println!(rt; "R {} {}", closing.allowed.0, closing.rest.0)
-        }
+        Ok(Answer::Closed(closing)) => rt.print(Closed(closing)),
         Ok(Answer::Drawn(figures)) => print_drawn(rt, figures),
         Err(fault) => println!(rt; "refused {}", fault.number()),
     }

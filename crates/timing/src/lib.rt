@@ -37,12 +37,11 @@ fn large_map(heap: Global) -> Result<PipeMap, SourceFault> {
 fn three_links(heap: Global) -> Result<Link<Link<Link<PipeMap>>>, SourceFault> {
     let one = Link::new(large_map(heap)?, 0, 32, Km(5))?;
     let two = Link::new(one, 7, 40, Km(9))?;
-    let three = Link::new(two, 21, 63, Km(2))?;
-    Ok(three)
+    Ok(Link::new(two, 21, 63, Km(2))?)
 }
 
-// The sum of so many distances, between one pair of stations after another. A loop, since the check did not find that the `sum` of a
-// chain fits.
+// The sum of so many distances, between one pair of stations after another. A loop with one invariant: the `sum` of a chain asked for
+// two proofs by hand.
 fn ask<S: Source>(source: &S, turns: u32) -> u64
     ensures { result ≤ longest * turns }
 {
