@@ -9,3 +9,17 @@ quarter_sum (suc zero) h = (refl, omega arith)
 quarter_sum (suc (suc zero)) h = (refl, omega arith)
 quarter_sum (suc (suc (suc zero))) h = (refl, omega arith)
 quarter_sum (suc (suc (suc (suc q)))) h = absurd (omega arith)
+
+-- three months, from whichever on, have at most 93 days
+pub three_months : (k : ℕ) → k ≤ 9 → sum (slice_range months k (k + 3)) ≤ 93
+three_months zero h = omega arith
+three_months (suc zero) h = omega arith
+three_months (suc (suc zero)) h = omega arith
+three_months (suc (suc (suc zero))) h = omega arith
+three_months (suc (suc (suc (suc zero)))) h = omega arith
+three_months (suc (suc (suc (suc (suc zero))))) h = omega arith
+three_months (suc (suc (suc (suc (suc (suc zero)))))) h = omega arith
+three_months (suc (suc (suc (suc (suc (suc (suc zero))))))) h = omega arith
+three_months (suc (suc (suc (suc (suc (suc (suc (suc zero)))))))) h = omega arith
+three_months (suc (suc (suc (suc (suc (suc (suc (suc (suc zero))))))))) h = omega arith
+three_months (suc (suc (suc (suc (suc (suc (suc (suc (suc (suc k)))))))))) h = absurd (omega arith)
