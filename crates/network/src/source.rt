@@ -12,7 +12,7 @@ pub trait Source {
     fn stations(&self) -> u32
         ensures { result ≡ (net self.now).stations };
 
-    // None where there is no route, or a or b is no station.
+    // None where there is no route, or a or b is no station. They stay two numbers, since any two may be asked.
     fn distance(&self, a: u32, b: u32) -> Option<Km>
         ensures { kms result ≡ (net self.now).distance a b };
 

@@ -4,7 +4,8 @@ use revenue::figures::{Closing, Figures};
 use terms::measures::Lots;
 use terms::points::{Kind, Side};
 
-// A book is handled by these calls and by nothing else.
+// A book is handled by these calls and by nothing else. Its methods take the words of a call one by one, as here: a struct for some of
+// them would be opened at once.
 #[derive(Clone, Copy, PartialEq, Eq, Debug)]
 pub enum Call {
     // a point of this side and kind at this station
