@@ -1,5 +1,5 @@
 -- The first broken of the rules for each place.
-use Rattle.std.proofs.Common.{◌≡◌, ℕ, zero, suc, ◌+◌, ◌<◌, Some, None, sym, ap, subst, inl, inr, arith}
+use Rattle.std.proofs.Common.{◌≡◌, ℕ, zero, suc, ◌+◌, ◌<◌, ◌≤◌, Some, None, Option, MatchOption, sym, ap, subst, inl, inr, arith}
 use Rattle.terms.specs.declared.faults.SourceFault.TheVariants.{BadFigure}
 use Rattle.terms.specs.Faults.{source_refusal}
 use Rattle.terms.specs.Refusals.{FirstBroken, NoneBroken}
@@ -31,3 +31,10 @@ module _ (Bad : ℕ → Type 0) where
   first_bad_lem k i h =
       subst (λ (x : ℕ). FirstBroken (each Bad 0 k) (source_refusal (BadFigure x))) (omega arith)
       (first_from 0 k i h.0 (λ j m c. h.1.0 j m (subst Bad (omega arith) c)) (subst Bad (omega arith) h.1.1))
+
+-- the first number of a range from 0 that a search found, or none
+pub first_below : (Bad : ℕ → Type 0) (n : ℕ) (r : Option ℕ)
+    → MatchOption r ((k : ℕ) → 0 ≤ k → k < n → Bad k → ⊥) (λ i. (0 ≤ i) × (i < n) × Bad i × ((k : ℕ) → 0 ≤ k → k < i → Bad k → ⊥))
+    → First Bad n r
+first_below Bad n None h = λ k l. h k (omega arith) l
+first_below Bad n (Some i) h = (h.1, (λ k l. h.3 k (omega arith) l, h.2))

@@ -1,5 +1,6 @@
 -- Laying pipes on a square of figures, and the stages of the search on it.
 use Rattle.std.proofs.Common.{◌≡◌, ℕ, ◌+◌, ◌*◌, ◌<◌, ◌≤◌, min, cond, eqb, ◌⊎◌, List, length, set, Some, None, Option, sym, refl, ap, ◌∙◌, subst, inl, inr, ⊎_elim, arith, length-set}
+use Rattle.std.proofs.Math.Logic.{∥∥₁_elim}
 use Rattle.std.proofs.lemmas.Bool.Decides.{nat_tests, eqb_tells}
 use Rattle.std.proofs.lemmas.Bool.{cases_lt}
 use Rattle.network.specs.declared.pipe.Pipe.{Pipe}
@@ -217,3 +218,7 @@ good_stable n p h = record {
 
 pub goods_of : (n : ℕ) (ps : List Pipe) → First (λ i. GoodPipe n (pipe_at ps i) → ⊥) (length ps) None → GoodPipes n ps
 goods_of n ps h i l = good_stable n (pipe_at ps i) (h i l)
+
+-- good pipes out of a ghost field
+pub unlock_pipes : (n : ℕ) (ps : List Pipe) → ∥ GoodPipes n ps ∥₁ → GoodPipes n ps
+unlock_pipes n ps h = goods_of n ps (λ i l bad. ∥∥₁_elim h (λ x y. absurd x) (λ g. bad (g i l)))

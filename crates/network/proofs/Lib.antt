@@ -1,4 +1,5 @@
 pub mod Firsts
+pub mod Makings
 pub mod Tables
 pub mod Roads
 pub mod Stages

@@ -2,11 +2,14 @@
 use Rattle.std.proofs.Common.{◌≡◌, ℕ, ◌+◌, ◌*◌, ◌/◌, ◌%◌, ◌<◌, ◌≤◌, Bool, true, false, List, length, get_or, None, MatchBool, sym, refl, subst, ⊎_elim, arith}
 use Rattle.std.proofs.lemmas.Nat.{div-mul-add, mod-mul-add, mul-add-lt}
 use Rattle.std.proofs.lemmas.Bool.{cases_lt}
-use Rattle.network.specs.Limits.{longest}
+use Rattle.terms.specs.Refusals.{NoneBroken}
+use Rattle.terms.proofs.Rulings.{none_append}
+use Rattle.network.specs.Limits.{bottom_stations, longest}
 use Rattle.network.specs.Rules.{First}
 use Rattle.network.specs.Grid.{at, GridLaws}
-use Rattle.network.specs.Table.{NoFigure, Beaten, BreaksLaw}
+use Rattle.network.specs.Table.{NoFigure, Beaten, BreaksLaw, table_rules}
 use Rattle.network.specs.Table.BreaksLaw.{not_itself, unlike, beaten}
+use Rattle.network.proofs.Firsts.{none_bad}
 
 -- two numbers that are not unlike are the same
 same : (x y : ℕ) → ((x ≡ y → ⊥) → ⊥) → x ≡ y
@@ -56,3 +59,6 @@ module _ (n : ℕ) (ws : List ℕ) (size : length ws ≡ n * n)
         plain (at n ws a c) (omega (arith, no_longer a b c ha hb hc e f)) (plain-figures (a * n + c) (place a c ha hc));
     detour = no_longer;
   }
+
+  pub table_kept : 1 ≤ n → n ≤ bottom_stations → NoneBroken (table_rules n ws)
+  table_kept some few = (grind arith, none_append _ _ (none_bad _ _ plain-figures) (none_bad _ _ kept_laws))

@@ -113,7 +113,7 @@ pub link_law : (n : Net) → Lawful n → LinkLaw n
 link_law n law = record { lawful = link_lawful n law; no_longer = no_longer n law }
 
 -- a sum may be capped on the way
-pub cap_early : (o r : Option ℕ) → capped (plus (capped o) r) ≡ capped (plus o r)
+cap_early : (o r : Option ℕ) → capped (plus (capped o) r) ≡ capped (plus o r)
 cap_early None r = refl
 cap_early (Some i) None = refl
 cap_early (Some i) (Some j) = ap Some (omega arith)
@@ -127,9 +127,17 @@ short_capped : (o : Option ℕ) → ((k : ℕ) → o ≡ Some k → k ≤ longes
 short_capped None h = refl
 short_capped (Some i) h = ap Some (omega (arith, h i refl))
 
--- so each part of the least may be capped on its own
-pub capped_parts : (d v w : Option ℕ) → ((k : ℕ) → d ≡ Some k → k ≤ longest) → least d (least (capped v) (capped w)) ≡ capped (least d (least v w))
-capped_parts d v w h =
+-- each part of the least may be capped on its own
+pub capped_each : (d v w : Option ℕ) → ((k : ℕ) → d ≡ Some k → k ≤ longest) → least d (least (capped v) (capped w)) ≡ capped (least d (least v w))
+capped_each d v w h =
     sym (cap_each d (least v w)
     ∙ ap (λ (o : Option ℕ). least o (capped (least v w))) (short_capped d h)
     ∙ ap (least d) (cap_each v w))
+
+-- and so may the sums in those parts
+pub capped_parts : (d x y z w l : Option ℕ) → ((k : ℕ) → d ≡ Some k → k ≤ longest)
+    → least d (least (capped (plus (capped (plus x l)) y)) (capped (plus (capped (plus z l)) w))) ≡ capped (least d (least (plus (plus x l) y) (plus (plus z l) w)))
+capped_parts d x y z w l h =
+    ap (λ (o : Option ℕ). least d (least o (capped (plus (capped (plus z l)) w)))) (cap_early (plus x l) y)
+    ∙ ap (λ (o : Option ℕ). least d (least (capped (plus (plus x l) y)) o)) (cap_early (plus z l) w)
+    ∙ capped_each d (plus (plus x l) y) (plus (plus z l) w) h

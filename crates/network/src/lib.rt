@@ -9,6 +9,7 @@ pub mod link;
 pub mod map;
 pub mod pairing;
 pub mod pipe;
+mod pipe_network;
 pub mod refused;
 mod search;
 pub mod source;

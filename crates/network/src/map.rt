@@ -1,13 +1,11 @@
-ghost use Rattle.network.specs.Pipes.{GoodPipes, LeastGrid, pipe_at, Joins, GoodPipe, map_rules};
-ghost use Rattle.std.specs.Prelude.{◌≡◌, ℕ, ◌≤◌, length, IfOk, MatchBool};
-ghost use Rattle.network.specs.Limits.{bottom_stations};
-ghost use Rattle.network.specs.Rules.{First, Made};
+ghost use Rattle.std.specs.Prelude.{◌≡◌, IfOk};
+ghost use Rattle.network.specs.Pipes.{GoodPipes, LeastGrid, Joins, map_rules};
+ghost use Rattle.network.specs.Rules.{Made};
 ghost use Rattle.network.specs.Routes.{Shortest, OneShortest};
 ghost use Rattle.network.specs.Grids.{unlock, grid_lawful};
 
-use crate::limits::{BOTTOM_STATIONS, LONGEST, MOST_PIPES};
 use crate::pipe::Pipe;
-use crate::search::find_shortest;
+use crate::pipe_network::PipeNetwork;
 use crate::source::Source;
 use crate::table::DistanceTable;
 use std::alloc::{AllocError, Global};
@@ -23,26 +21,14 @@ pub struct PipeMap {
     ghost least: { ∥ LeastGrid table.grid.count pipes.items table.grid.figures.items ∥₁ },
 }
 
-fn is_good(n: u32, p: Pipe) -> bool
-    ensures { MatchBool result (GoodPipe n p) (GoodPipe n p → ⊥) }
-{
-    p.from < n && p.to < n && p.from != p.to && p.length.0 > 0 && p.length.0 <= LONGEST
-}
-
-// The first pipe that is not between two different stations, or not 1 to 9,999 km long.
-fn first_bad(n: u32, pipes: &[Pipe]) -> Option<usize>
-    ensures { First (λ i. GoodPipe n (pipe_at pipes.now i) → ⊥) (length pipes.now) result }
-{
-    pipes.iter().position(|p| !is_good(n, *p))
-}
-
-// The distances along good pipes.
-fn distances_along(heap: Global, n: usize, pipes: &[Pipe]) -> Result<DistanceTable, AllocError>
-    requires { (1 ≤ n) × ((n ≤ bottom_stations) × (GoodPipes n pipes.now)) }
-    ensures { IfOk result (λ t. (t.grid.count ≡ n) × LeastGrid n pipes.now t.grid.figures.items) }
-{
-    let grid = find_shortest(heap, n, pipes)?;
-    Ok(DistanceTable { grid })
+impl PipeNetwork<'_> {
+    // The distances along the pipes.
+    fn distances(&self, heap: Global) -> Result<DistanceTable, AllocError>
+        ensures { IfOk result (λ t. (t.grid.count ≡ self.now.count) × LeastGrid self.now.count self.now.pipes.now t.grid.figures.items) }
+    {
+        let grid = self.shortest(heap)?;
+        Ok(DistanceTable { grid })
+    }
 }
 
 impl PipeMap {
@@ -53,14 +39,9 @@ impl PipeMap {
         ensures made { Made (map_rules n pipes.now) (λ m. Shortest (Joins pipes.now) n (of_map m)) result }
         ensures one { OneShortest (Joins pipes.now) n }
     {
-        if n == 0 || n > BOTTOM_STATIONS || pipes.len() > MOST_PIPES {
-            return Err(SourceFault::WrongCount);
-        }
-        if let Some(i) = first_bad(n, pipes) {
-            return Err(SourceFault::BadFigure(i));
-        }
-        let table = distances_along(heap, n as usize, pipes)?;
-        let pipes = Vec::from_slice(heap, pipes)?;
+        let network = PipeNetwork::new(n, pipes)?;
+        let table = network.distances(heap)?;
+        let pipes = Vec::from_slice(heap, network.pipes)?;
         Ok(PipeMap { pipes, table })
     }
 }

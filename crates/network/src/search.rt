@@ -1,13 +1,14 @@
 // The search for shortest routes: at first only the pipes, and then one station after another may be passed through.
-ghost use Rattle.std.specs.Prelude.{◌≡◌, ℕ, ◌+◌, ◌*◌, ◌<◌, ◌≤◌, IfOk, if◌then◌else◌, nat_eq, slice_set};
-ghost use Rattle.network.specs.Limits.{bottom_stations};
+// Rows, columns and the station passed through are asked in range, as an index of a slice is.
+ghost use Rattle.std.specs.Prelude.{◌≡◌, ℕ, ◌+◌, ◌*◌, ◌<◌, IfOk, if◌then◌else◌, nat_eq, slice_set};
 ghost use Rattle.network.specs.Grid.{at};
 ghost use Rattle.network.specs.Search.{shortcut, through, laid};
-ghost use Rattle.network.specs.Pipes.{GoodPipe, GoodPipes, LeastGrid};
+ghost use Rattle.network.specs.Pipes.{GoodPipe, LeastGrid};
 
 use crate::grid::Grid;
 use crate::limits::LONGEST_FIGURE;
 use crate::pipe::Pipe;
+use crate::pipe_network::PipeNetwork;
 use std::alloc::{AllocError, Global};
 
 // z, or x and then y where that is shorter.
@@ -67,17 +68,18 @@ impl Grid {
     }
 }
 
-// The least lengths over all routes along the pipes.
-pub(crate) fn find_shortest(heap: Global, n: usize, pipes: &[Pipe]) -> Result<Grid, AllocError>
-    requires { (n ≤ bottom_stations) × (GoodPipes n pipes.now) }
-    ensures { IfOk result (λ g. (g.count ≡ n) × LeastGrid n pipes.now g.figures.items) }
-{
-    let mut grid = Grid::new(heap, n)?;
-    for p in pipes {
-        grid.lay(*p);
+impl PipeNetwork<'_> {
+    // The least lengths over all routes along the pipes.
+    pub(crate) fn shortest(&self, heap: Global) -> Result<Grid, AllocError>
+        ensures { IfOk result (λ g. (g.count ≡ self.now.count) × LeastGrid self.now.count self.now.pipes.now g.figures.items) }
+    {
+        let mut grid = Grid::new(heap, self.count)?;
+        for p in self.pipes {
+            grid.lay(*p);
+        }
+        for k in 0..self.count {
+            grid.relax(k);
+        }
+        Ok(grid)
     }
-    for k in 0..n {
-        grid.relax(k);
-    }
-    Ok(grid)
 }

@@ -40,24 +40,15 @@ impl GridRef<'_> {
         (a == b && there != 0) || there != back || self.has_detour(a, b)
     }
 
-    // The figure at that place breaks a law.
-    fn is_lawless(&self, place: usize) -> bool
-        requires { place < length self.now.figures.now }
-        ensures { let n = self.now.count in let broken = BreaksLaw n self.now.figures.now (place / n) (place % n) in MatchBool result broken (broken → ⊥) }
-    {
-        self.breaks_law(place / self.count, place % self.count)
-    }
-
     // The first figure that breaks a law.
     pub(super) fn first_lawless(&self) -> Option<usize>
         ensures { let n = self.now.count in First (λ i. BreaksLaw n self.now.figures.now (i / n) (i % n)) (length self.now.figures.now) result }
     {
-        // a loop, since what a closure of `position` says of the law was not proved
-        for place in 0..self.figures.len() {
-            if self.is_lawless(place) {
-                return Some(place);
-            }
-        }
-        None
+        (0..self.figures.len()).find(
+            |&place|
+                requires { place < length self.now.figures.now }
+                ensures { let g = self.entry.now in let broken = BreaksLaw g.count g.figures.now (place / g.count) (place % g.count) in MatchBool result broken (broken → ⊥) }
+            { self.breaks_law(place / self.count, place % self.count) },
+        )
     }
 }

@@ -1,9 +1,12 @@
 use Rattle.std.proofs.Common.{◌≡◌, ◌*◌, length, sym, ap, subst, inr, arith}
-use Rattle.std.proofs.lemmas.Result.{err_from_is_err_and}
+use Rattle.network.specs.declared.table.DistanceTable.{DistanceTable}
 use Rattle.network.specs.Grid.{grid_net, GridLaws}
-use Rattle.terms.proofs.Rulings.{none_append, first_front, first_back}
+use Rattle.network.specs.Table.{table_rules}
+use Rattle.network.specs.Meanings.{of_table}
+use Rattle.terms.proofs.Rulings.{first_front, first_back}
 use Rattle.network.proofs.Firsts.{none_bad, first_bad_lem}
-use Rattle.network.proofs.Tables.{table_laws}
+use Rattle.network.proofs.Makings.{no_memory}
+use Rattle.network.proofs.Tables.{table_kept, table_laws}
 use Rattle.network.proofs.table.DistanceTable.new.Goals as goal
 
 pub returns-in-Some : goal.returns-in-Some
@@ -14,8 +17,10 @@ returns-in-Some-first_lawless c = inr (grind arith, first_back _ _ _ (none_bad _
 
 pub returns-in_err-figures : goal.returns-in_err-figures
 returns-in_err-figures c =
-    let p = err_from_is_err_and c.from_residual.result c.from_residual.ensures.1 in
-    rw (p.1, p.2) (grind arith, none_append _ _ (none_bad _ _ c.in_default.ensures) (none_bad _ _ c.in_default-first_lawless.ensures))
+    let n = c.args.n in
+    let ws = c.args.figures.now in
+    let kept = table_kept n ws (omega arith) c.in_default.ensures c.in_default-first_lawless.ensures (omega arith) (omega arith) in
+    no_memory (table_rules n ws) (λ (t : DistanceTable). of_table t ≡ grid_net n ws) _ kept c.from_residual.ensures.1
 
 pub invariant_of-result-2 : goal.invariant_of-result-2
 invariant_of-result-2 c =
@@ -26,4 +31,5 @@ invariant_of-result-2 c =
 
 pub returns : goal.returns
 returns c =
-    ((grind arith, none_append _ _ (none_bad _ _ c.in_default.ensures) (none_bad _ _ c.in_default-first_lawless.ensures)), ap (grid_net c.args.n) c.in_ok-figures.ensures.items)
+    let kept = table_kept c.args.n c.args.figures.now (omega arith) c.in_default.ensures c.in_default-first_lawless.ensures (omega arith) (omega arith) in
+    (kept, ap (grid_net c.args.n) c.in_ok-figures.ensures.items)
