@@ -12,6 +12,8 @@ use pricing::amount::Amount;
 use revenue::carried::Carried;
 use terms::points::Side;
 
+// What a book holds beside its source. It names no source, so each call is proved on it once, whatever a source means, and the book
+// passes its own.
 #[derive(Drop)]
 pub struct PointTable {
     pub(crate) entries: Row,
