@@ -1,5 +1,5 @@
 -- What a plan finds in a table, and what it leaves.
-use Rattle.std.proofs.Common.{◌≡◌, ℕ, ◌+◌, ◌-◌, ◌<◌, ◌≤◌, false, length, get_or, set, Some, None, sym, refl, ap, ◌∙◌, subst, arith}
+use Rattle.std.proofs.Common.{◌≡◌, ℕ, ◌+◌, ◌-◌, ◌<◌, ◌≤◌, false, List, length, get_or, set, Some, None, sym, refl, ap, ◌∙◌, subst, arith}
 use Rattle.std.specs.List.{slice_get, All}
 use Rattle.std.proofs.lemmas.Option.{slice_get_within}
 use Rattle.std.proofs.lemmas.List.Sums.{sum_by-set, get_or-le-sum_by}
@@ -25,11 +25,13 @@ other_side_lem : (s : Side) → same_side (opposite s) s ≡ false
 other_side_lem Entry = refl
 other_side_lem Exit = refl
 
--- the side's lots after a plan, from its lots before and the point's
-pub lots_replanned : (t : PointTable) (s : Side) (i lots old total : ℕ) → i < length (held_in (row_of t s)) → old ≡ (get_or (held_in (row_of t s)) i blank).lots.0 → total ≡ record_lots (held_in (row_of t s)) → record_lots (replanned t s i lots) ≡ (total - old) + lots
-lots_replanned t s i lots old total l o k =
+-- the side's lots after a plan, from its row, the row's records and their lots before
+pub lots_replanned : (t : PointTable) (s : Side) (i lots total : ℕ) (row : Row) (rs : List PointRecord) → i < length (held_in (row_of t s)) → row ≡ row_of t s → rs ≡ held_in row → total ≡ record_lots (held_in row) → record_lots (replanned t s i lots) ≡ (total - (get_or rs i blank).lots.0) + lots
+lots_replanned t s i lots total row rs l r h k =
     let e = sum_by-set (λ (r : PointRecord). r.lots.0) (held_in (row_of t s)) i (relotted (get_or (held_in (row_of t s)) i blank) lots) blank l in
     let a = get_or-le-sum_by (λ r. r.lots.0) (held_in (row_of t s)) i blank l in
+    let o = ap (λ xs. (get_or xs i blank).lots.0) (h ∙ ap held_in r) in
+    let m = k ∙ ap (λ x. record_lots (held_in x)) r in
     omega arith
 
 -- the record at its place, part by part

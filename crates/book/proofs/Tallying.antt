@@ -1,8 +1,9 @@
 -- Sums by element, one record at a time, and their bounds.
-use Rattle.std.proofs.Common.{◌≡◌, ℕ, ◌+◌, ◌*◌, ◌<◌, ◌≤◌, Bool, true, false, cond, List, [], ◌∷◌, ◌++◌, length, get_or, take, sum_by, Some, None, Option, sym, refl, ap, ◌∙◌, mul_comm, mul-le-mul_left, arith}
+use Rattle.std.proofs.Common.{◌≡◌, ℕ, ◌+◌, ◌*◌, ◌<◌, ◌≤◌, Bool, true, false, cond, List, [], ◌∷◌, ◌++◌, length, get_or, take, sum_by, Some, None, Option, sym, refl, ap, ◌∙◌, subst, mul_comm, mul-le-mul_left, arith}
 use Rattle.std.proofs.lemmas.List.{take_more}
-use Rattle.std.proofs.lemmas.List.Sums.{sum_by-cons, sum_by_push, sum_by-take-le, get_or-le-sum_by}
+use Rattle.std.proofs.lemmas.List.Sums.{sum_by-cons, sum_by_push, sum_by_more, sum_by-take-le, get_or-le-sum_by}
 use Rattle.terms.specs.declared.points.Side.{Side}
+use Rattle.terms.specs.declared.points.Side.TheVariants.{Exit}
 use Rattle.terms.specs.declared.points.Kind.{Kind}
 use Rattle.terms.specs.declared.points.Kind.TheVariants.{Storage}
 use Rattle.network.specs.Limits.{longest}
@@ -78,6 +79,31 @@ module _ (net : Net) (lawful : Lawful net) (at : ℕ) where
 
   pub load_few : (rs : List PointRecord) (i : ℕ) → i < length rs → record_lots rs ≤ most_lots → record_load net at (get_or rs i blank) ≤ most_reach
   load_few rs i l h = let a = load_le (get_or rs i blank) in let b = get_or-le-sum_by (λ r. r.lots.0) rs i blank l in omega arith
+
+-- ---- what a point has with one exit more, of which its distance was asked
+
+module _ (net : Net) (e : PointRecord) (xs : List PointRecord) (i d : ℕ) (o : Option ℕ) (l : i < length xs) (is : d ≡ km o) (asked : o ≡ net.distance e.station (get_or xs i blank).station) where
+  abbrev next : PointRecord
+  next = get_or xs i blank
+
+  far : d ≡ km (net.distance e.station next.station)
+  far = is ∙ ap km asked
+
+  pub reach_more : (reach : ℕ) → reach ≡ record_reach net e.station (take i xs) → reach + next.lots.0 * d ≡ record_reach net e.station (take (i + 1) xs)
+  reach_more reach r =
+      ap (λ n. n + next.lots.0 * d) r
+      ∙ ap (λ n. record_reach net e.station (take i xs) + next.lots.0 * n) far
+      ∙ sym (sum_by_more (record_load net e.station) xs i blank l)
+
+  pub brought_more : (before weights : Elements ℕ) → weights ≡ both before (tally Exit (brought net e) (take i xs)) → plus Exit next.kind weights (e.lots.0 * (next.lots.0 * d)) ≡ both before (tally Exit (brought net e) (take (i + 1) xs))
+  brought_more before weights w =
+      ap (λ s. plus Exit next.kind s (e.lots.0 * (next.lots.0 * d))) w
+      ∙ plus_both Exit next.kind before _ _
+      ∙ ap (λ n. both before (plus Exit next.kind (tally Exit (brought net e) (take i xs)) (e.lots.0 * (next.lots.0 * n)))) far
+      ∙ ap (both before) (tally_more Exit (brought net e) xs i blank l)
+
+  pub part_few : Lawful net → record_lots xs ≤ most_lots → next.lots.0 * d ≤ most_reach
+  part_few lawful light = subst (λ n. next.lots.0 * n ≤ most_reach) (sym far) (load_few net lawful e.station xs i l light)
 
 -- ---- the other side's weights, with one record more
 

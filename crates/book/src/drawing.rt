@@ -15,7 +15,7 @@ use rules::calls::Call;
 use terms::faults::BookFault;
 use terms::points::Side;
 
-// What a draw takes of a side, with these weights.
+// What a draw takes of a side, with these weights. A row does not hold its side: it is the `entries` or the `exits` of a table.
 fn side_plan(side: Side, row: &Row, weights: Weights) -> SidePlan
     ensures weights { result.weights ≡ weights }
     ensures lots { result.lots ≡ record_side_lots side (held_in row.now) }

@@ -1,16 +1,10 @@
 // The book, and runs of its calls.
-ghost use Rattle.std.specs.Prelude.{◌≡◌, ◌+◌, [], length, IfOk};
-ghost use Rattle.std.specs.List.{slice_get};
+ghost use Rattle.std.specs.Prelude.{◌≡◌, [], IfOk};
 ghost use Rattle.network.specs.Meanings.{of_trunk};
 ghost use Rattle.network.specs.Trunk.{trunk_net, trunk_rules};
-ghost use Rattle.rules.specs.Points.{on_side, lots_of};
 ghost use Rattle.book.specs.Follows.{opened, done, closed, drawn};
-ghost use Rattle.book.specs.Records.{record_lots};
-ghost use Rattle.book.specs.Shows.{held_in, row_of};
-ghost use Rattle.book.specs.Figures.{Sees, Recorded, seen_point};
 ghost use Rattle.book.specs.Law.{Stands, Standing, Keeps, Run, Founded};
 
-use crate::reading::Point;
 use crate::table::PointTable;
 use network::source::Source;
 use network::trunk::Trunk;
@@ -19,7 +13,7 @@ use revenue::figures::{Closing, Figures};
 use rules::calls::{Answer, Call};
 use std::alloc::{AllocError, Global};
 use terms::faults::BookFault;
-use terms::measures::{Dinars, Lots};
+use terms::measures::Lots;
 use terms::points::{Kind, Side};
 
 // A tariff book over a distance source. It is made empty, and handled by its five calls and by nothing else, so some calls lead to
@@ -28,7 +22,7 @@ use terms::points::{Kind, Side};
 #[derive(Drop)]
 pub struct Book<S: Source> {
     source: S,
-    table: PointTable,
+    pub(crate) table: PointTable,
     ghost stands: { Standing (S.Source.net source) table },
 }
 
@@ -104,57 +98,6 @@ impl Book<Trunk> {
     {
         let trunk = Trunk::new(heap, positions)?;
         Ok(Book::new(trunk))
-    }
-}
-
-// The figures of a book, each that of the plain book. The table has them too, since they are proved once there, for any source.
-impl<S: Source> Book<S> {
-    // How many points are open, on both sides.
-    pub fn points(&self) -> u32
-        ensures value { result ≡ length (held_in self.now.table.entries) + length (held_in self.now.table.exits) }
-        ensures figure { Sees self.now.table (λ p. result ≡ length p.points) }
-    {
-        self.table.points()
-    }
-
-    // The point with this number.
-    pub fn point(&self, number: u32) -> Option<Point>
-        ensures value { Recorded self.now.table number result }
-        ensures figure { Sees self.now.table (λ p. seen_point result ≡ slice_get p.points number) }
-    {
-        self.table.point(number)
-    }
-
-    // The planned lots of a side.
-    pub fn lots(&self, side: Side) -> Lots
-        ensures value { result.0 ≡ record_lots (held_in (row_of self.now.table side)) }
-        ensures figure { Sees self.now.table (λ p. result.0 ≡ lots_of (on_side side p.points)) }
-    {
-        self.table.lots(side)
-    }
-
-    // The storage relief of a side, in ten-thousandths.
-    pub fn relief(&self, side: Side) -> u32
-        ensures value { result ≡ (row_of self.now.table side).relief.parts }
-        ensures figure { Sees self.now.table (λ p. result ≡ p.relief side) }
-    {
-        self.table.relief(side)
-    }
-
-    // The allowed revenue of the last closed period, or 0.
-    pub fn allowed(&self) -> Dinars<u64>
-        ensures value { result ≡ self.now.table.allowed.dinars }
-        ensures figure { Sees self.now.table (λ p. result.0 ≡ p.allowed) }
-    {
-        self.table.allowed()
-    }
-
-    // What is carried on to the next period.
-    pub fn carried(&self) -> Dinars<i64>
-        ensures value { result ≡ self.now.table.carried.amount }
-        ensures figure { Sees self.now.table (λ p. result.0 ≡ p.carried) }
-    {
-        self.table.carried()
     }
 }
 

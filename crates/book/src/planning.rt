@@ -5,6 +5,7 @@ ghost use Rattle.book.specs.Steps.{Plannable};
 ghost use Rattle.book.specs.Follows.{Checked, Follows, Kept, done};
 
 use crate::limits::MOST_LOTS;
+use crate::record::PointRecord;
 use crate::table::PointTable;
 use rules::calls::Call;
 use terms::faults::BookFault;
@@ -31,8 +32,10 @@ impl PointTable {
         ensures step { (net : Net) → Follows net self.old (Call.Plan point lots) (done result) self.new }
     {
         let (side, at) = self.check_plan(point, lots)?;
-        let mut planned = self.row(side).held()[at];
-        planned.lots = lots;
+        let planned = PointRecord {
+            lots,
+            ..self.row(side).held()[at]
+        };
         self.row_mut(side).put(at, planned);
         Ok(())
     }

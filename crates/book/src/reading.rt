@@ -1,4 +1,4 @@
-// The figures of a table.
+// The figures of a book.
 ghost use Rattle.std.specs.Prelude.{◌≡◌, ◌+◌, length};
 ghost use Rattle.std.specs.List.{slice_get};
 ghost use Rattle.rules.specs.Points.{on_side, lots_of};
@@ -6,7 +6,8 @@ ghost use Rattle.book.specs.Records.{record_lots};
 ghost use Rattle.book.specs.Shows.{held_in, row_of};
 ghost use Rattle.book.specs.Figures.{Sees, Recorded, seen_point};
 
-use crate::table::PointTable;
+use crate::ledger::Book;
+use network::source::Source;
 use terms::measures::{Dinars, Lots};
 use terms::points::{Kind, Side};
 
@@ -19,22 +20,23 @@ pub struct Point {
     pub lots: Lots,
 }
 
-impl PointTable {
+// The figures of a book, each that of the plain book.
+impl<S: Source> Book<S> {
     // How many points are open, on both sides.
-    pub(crate) fn points(&self) -> u32
-        ensures value { result ≡ length (held_in self.now.entries) + length (held_in self.now.exits) }
-        ensures figure { Sees self.now (λ p. result ≡ length p.points) }
+    pub fn points(&self) -> u32
+        ensures value { result ≡ length (held_in self.now.table.entries) + length (held_in self.now.table.exits) }
+        ensures figure { Sees self.now.table (λ p. result ≡ length p.points) }
     {
-        (self.entries.held().len() + self.exits.held().len()) as u32
+        self.table.points()
     }
 
     // The point with this number.
-    pub(crate) fn point(&self, number: u32) -> Option<Point>
-        ensures value { Recorded self.now number result }
-        ensures figure { Sees self.now (λ p. seen_point result ≡ slice_get p.points number) }
+    pub fn point(&self, number: u32) -> Option<Point>
+        ensures value { Recorded self.now.table number result }
+        ensures figure { Sees self.now.table (λ p. seen_point result ≡ slice_get p.points number) }
     {
-        let (side, at) = self.locate(number)?;
-        let found = self.row(side).held()[at];
+        let (side, at) = self.table.locate(number)?;
+        let found = self.table.row(side).held()[at];
         Some(Point {
             side,
             kind: found.kind,
@@ -44,32 +46,34 @@ impl PointTable {
     }
 
     // The planned lots of a side.
-    pub(crate) fn lots(&self, side: Side) -> Lots
-        ensures value { result.0 ≡ record_lots (held_in (row_of self.now side)) }
-        ensures figure { Sees self.now (λ p. result.0 ≡ lots_of (on_side side p.points)) }
+    pub fn lots(&self, side: Side) -> Lots
+        ensures value { result.0 ≡ record_lots (held_in (row_of self.now.table side)) }
+        ensures figure { Sees self.now.table (λ p. result.0 ≡ lots_of (on_side side p.points)) }
     {
-        self.row(side).lots()
+        self.table.row(side).lots()
     }
 
     // The storage relief of a side, in ten-thousandths.
-    pub(crate) fn relief(&self, side: Side) -> u32
-        ensures value { result ≡ (row_of self.now side).relief.parts }
-        ensures figure { Sees self.now (λ p. result ≡ p.relief side) }
+    pub fn relief(&self, side: Side) -> u32
+        ensures value { result ≡ (row_of self.now.table side).relief.parts }
+        ensures figure { Sees self.now.table (λ p. result ≡ p.relief side) }
     {
-        self.row(side).relief().get()
+        self.table.row(side).relief().get()
     }
 
-    pub(crate) fn allowed(&self) -> Dinars<u64>
-        ensures value { result ≡ self.now.allowed.dinars }
-        ensures figure { Sees self.now (λ p. result.0 ≡ p.allowed) }
+    // The allowed revenue of the last closed period, or 0.
+    pub fn allowed(&self) -> Dinars<u64>
+        ensures value { result ≡ self.now.table.allowed.dinars }
+        ensures figure { Sees self.now.table (λ p. result.0 ≡ p.allowed) }
     {
-        self.allowed.get()
+        self.table.allowed.get()
     }
 
-    pub(crate) fn carried(&self) -> Dinars<i64>
-        ensures value { result ≡ self.now.carried.amount }
-        ensures figure { Sees self.now (λ p. result.0 ≡ p.carried) }
+    // What is carried on to the next period.
+    pub fn carried(&self) -> Dinars<i64>
+        ensures value { result ≡ self.now.table.carried.amount }
+        ensures figure { Sees self.now.table (λ p. result.0 ≡ p.carried) }
     {
-        self.carried.amount()
+        self.table.carried.amount()
     }
 }

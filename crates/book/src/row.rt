@@ -10,7 +10,8 @@ use terms::measures::Lots;
 use terms::points::Kind;
 
 // One side of a book's table. Its open points stand first in `places`, in the order in which they were opened.
-// The places are an array, and not a `Vec`, since no call of a book allocates.
+// The places are an array filled by repetition, and no `Vec`, since no call of a book allocates; nor are they an `ArrayVec`, since
+// the project's rule for a table is a plain array of 96 records for each side, and a row is plain data that can be copied.
 #[derive(Clone, Copy)]
 pub struct Row {
     places: [PointRecord; MOST_EXITS],

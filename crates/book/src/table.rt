@@ -1,9 +1,10 @@
 // The inner table of a book, and the one place where its points are found and changed.
-ghost use Rattle.std.specs.Prelude.{◌≡◌};
+ghost use Rattle.std.specs.Prelude.{◌≡◌, ◌+◌, length};
 ghost use Rattle.std.specs.Borrow.{sem};
 ghost use Rattle.rules.specs.Points.{opposite, empty};
 ghost use Rattle.book.specs.Rows.{LendsRow};
-ghost use Rattle.book.specs.Shows.{row_of, Shows};
+ghost use Rattle.book.specs.Shows.{held_in, row_of, Shows};
+ghost use Rattle.book.specs.Figures.{Sees};
 ghost use Rattle.book.specs.Steps.{Located};
 
 use crate::row::Row;
@@ -11,6 +12,8 @@ use pricing::amount::Amount;
 use revenue::carried::Carried;
 use terms::points::Side;
 
+// What a book holds beside its source. It names no source, so each call is proved on it once, whatever a source means, and the book
+// passes its own.
 #[derive(Drop)]
 pub struct PointTable {
     pub(crate) entries: Row,
@@ -48,6 +51,14 @@ impl PointTable {
             Side::Entry => &self.entries,
             Side::Exit => &self.exits,
         }
+    }
+
+    // How many points are open, on both sides: also the number of the next one.
+    pub(crate) fn points(&self) -> u32
+        ensures value { result ≡ length (held_in self.now.entries) + length (held_in self.now.exits) }
+        ensures figure { Sees self.now (λ p. result ≡ length p.points) }
+    {
+        (self.entries.held().len() + self.exits.held().len()) as u32
     }
 
     // The side and place of the point with this number.

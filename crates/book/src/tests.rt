@@ -86,10 +86,7 @@ fn shares(figures: TariffFigures) -> u128 {
 
 // Why a call is refused.
 fn refusal<S: Source>(book: &mut Book<S>, call: Call) -> Result<BookFault, Fail> {
-    match book.handle(call) {
-        Ok(_) => Err(Fail::new("accepted")),
-        Err(fault) => Ok(fault),
-    }
+    Ok(book.handle(call).err().ok_or("accepted")?)
 }
 
 // All figures of the worked book are what its calls left.
@@ -297,11 +294,9 @@ fn a_refused_draw_leaves_no_trace(rt: HostRuntime) -> Result<(), Fail> {
 
 #[test]
 fn a_fault_of_the_source_is_passed_on_whole(rt: HostRuntime) -> Result<(), Fail> {
-    match Book::on_trunk(rt.alloc(), &[0, 10_000]) {
-        Ok(_) => Err(Fail::new("made")),
-        Err(fault) => {
-            assert_eq!(rt; fault, BookFault::Source(SourceFault::BadFigure(1)));
-            Ok(())
-        },
-    }
+    let fault = Book::on_trunk(rt.alloc(), &[0, 10_000])
+        .err()
+        .ok_or("made")?;
+    assert_eq!(rt; fault, BookFault::Source(SourceFault::BadFigure(1)));
+    Ok(())
 }

@@ -36,7 +36,7 @@ fn added(side: Side, kind: Kind, to: Weights, part: u64) -> Weights
     sums
 }
 
-// The sums of a side's lots, by element.
+// The sums of a side's lots, by element. A row does not hold its side: it is the `entries` or the `exits` of a table.
 fn lots_by_element(side: Side, row: &Row) -> Weights
     ensures value { result ≡ tally side (λ x. x.lots.0) (held_in row.now) }
     ensures few { Within result most_lots }

@@ -1,8 +1,6 @@
-use Rattle.std.proofs.Common.{◌≡◌, get_or, Some, None, refl, ap, ◌∙◌, inl, inr, arith}
+use Rattle.std.proofs.Common.{◌≡◌, None, refl, inl, inr, arith}
 use Rattle.std.proofs.lemmas.Result.{err_from_is_err_and}
 use Rattle.terms.specs.declared.faults.BookFault.TheVariants.{NoPoint}
-use Rattle.book.specs.Records.{record_lots, blank}
-use Rattle.book.specs.Shows.{held_in}
 use Rattle.book.proofs.Plans.{past, known, overplanned, not_overplanned, lots_replanned}
 use Rattle.book.proofs.table.PointTable.check_plan.Goals as goal
 
@@ -18,13 +16,8 @@ returns-in_err-side-clause-checked c =
 pub returns-then-lots-others-clause-checked : goal.returns-then-lots-others-clause-checked
 returns-then-lots-others-clause-checked c =
     let t = c.args.self.now in
-    let v = c.in_ok-side.ensures.value in
-    let w = c.in_ok-side.was in
-    let some : c.locate.result ≡ Some (c.in_ok-side.side, c.in_ok-side.at) = grind (arith, v, w) in
-    let found = rw some at c.locate.ensures in
-    let row = ap held_in c.row-row.ensures in
-    let e = c.held.ensures.value ∙ row in
-    let k = lots_replanned t c.in_ok-side.side c.in_ok-side.at c.args.lots.0 _ _ found.0 (ap (λ rs. (get_or rs c.in_ok-side.at blank).lots.0) e) (c.lots.ensures.value ∙ ap record_lots row) in
+    let found = rw c.in_ok-side.ensures.ok_part at c.locate.ensures in
+    let k = lots_replanned t c.in_ok-side.side c.in_ok-side.at c.args.lots.0 _ _ _ found.0 c.row-row.ensures c.held.ensures.value c.lots.ensures.value in
     let b = c.lots.ensures.bound in
     λ net p sh. inr (
       known t p sh c.in_ok-side.side c.in_ok-side.at c.args.point found,
@@ -34,13 +27,8 @@ returns-then-lots-others-clause-checked c =
 pub returns-clause-checked : goal.returns-clause-checked
 returns-clause-checked c =
     let t = c.args.self.now in
-    let v = c.in_ok-side.ensures.value in
-    let w = c.in_ok-side.was in
-    let some : c.locate.result ≡ Some (c.in_ok-side.side, c.in_ok-side.at) = grind (arith, v, w) in
-    let found = rw some at c.locate.ensures in
-    let row = ap held_in c.row-row.ensures in
-    let e = c.held.ensures.value ∙ row in
-    let k = lots_replanned t c.in_ok-side.side c.in_ok-side.at c.args.lots.0 _ _ found.0 (ap (λ rs. (get_or rs c.in_ok-side.at blank).lots.0) e) (c.lots.ensures.value ∙ ap record_lots row) in
+    let found = rw c.in_ok-side.ensures.ok_part at c.locate.ensures in
+    let k = lots_replanned t c.in_ok-side.side c.in_ok-side.at c.args.lots.0 _ _ _ found.0 c.row-row.ensures c.held.ensures.value c.lots.ensures.value in
     let b = c.lots.ensures.bound in
     λ net p sh. (
       known t p sh c.in_ok-side.side c.in_ok-side.at c.args.point found,
