@@ -1,5 +1,5 @@
 // Pipes that fit their stations, as lent.
-ghost use Rattle.std.specs.Prelude.{◌≡◌, ◌≤◌, length, IfOk, MatchBool};
+ghost use Rattle.std.specs.Prelude.{◌≡◌, ◌≤◌, length, MatchBool};
 ghost use Rattle.network.specs.Limits.{bottom_stations};
 ghost use Rattle.network.specs.Rules.{First, Made};
 ghost use Rattle.network.specs.Pipes.{GoodPipe, GoodPipes, pipe_at, map_rules};
