@@ -1,4 +1,4 @@
-use Rattle.std.proofs.Common.{◌≡◌, None, refl, inl, inr, arith}
+use Rattle.std.proofs.Common.{◌≡◌, refl, inl, inr, arith}
 use Rattle.std.proofs.lemmas.Result.{err_from_is_err_and}
 use Rattle.terms.specs.declared.faults.BookFault.TheVariants.{NoPoint}
 use Rattle.book.proofs.Plans.{past, known, overplanned, not_overplanned, lots_replanned}
@@ -9,7 +9,7 @@ returns-in_err-side-clause-checked c =
     let e = err_from_is_err_and c.from_residual.result c.from_residual.ensures.1 in
     let v = c.in_err-side.ensures.value in
     let w = c.in_err-side.was in
-    let none : c.locate.result ≡ None = grind (arith, v, w) in
+    let none = c.in_err-side.ensures.ok_part in
     let told : c.in_err-side.field-0.0 ≡ NoPoint = grind (arith, v, w, none) in
     rw (e.1, e.2, told) (λ net p sh. inl (past c.args.self.now p sh c.args.point (rw none at c.locate.ensures), refl))
 

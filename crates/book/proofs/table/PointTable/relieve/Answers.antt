@@ -1,4 +1,4 @@
-use Rattle.std.proofs.Common.{◌≡◌, Some, None, ap, ◌∙◌, inl, refl, arith}
+use Rattle.std.proofs.Common.{◌≡◌, ap, ◌∙◌, inl, refl, arith}
 use Rattle.std.proofs.lemmas.Result.{err_from_is_err_and}
 use Rattle.terms.specs.declared.faults.BookFault.TheVariants.{ReliefTooHigh}
 use Rattle.pricing.specs.declared.relief.Relief.{Relief}
@@ -13,16 +13,13 @@ returns-in_err-relief-clause-step c =
     let e = err_from_is_err_and c.from_residual.result c.from_residual.ensures.1 in
     let v = c.in_err-relief.ensures.value in
     let w = c.in_err-relief.was in
-    let none : c.new.result ≡ None = grind (arith, v, w) in
+    let none = c.in_err-relief.ensures.ok_part in
     let told : c.in_err-relief.field-0.0 ≡ ReliefTooHigh = grind (arith, v, w, none) in
     rw (e.1, e.2, told) (λ net p sh. (p, refused (inl (rw none at c.new.ensures, refl)), sh))
 
 pub returns-clause-step : goal.returns-clause-step
 returns-clause-step c =
-    let v = c.in_ok-relief.ensures.value in
-    let w = c.in_ok-relief.was in
-    let some : c.new.result ≡ Some c.in_ok-relief.relief = grind (arith, v, w) in
-    let e = rw some at c.new.ensures in
+    let e = rw c.in_ok-relief.ensures.ok_part at c.new.ensures in
     let b = c.in_ok-relief.relief.bounded in
     λ net p sh. (
       after p (Relieve c.args.side c.args.parts),
