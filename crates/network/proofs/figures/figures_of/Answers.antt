@@ -1,4 +1,4 @@
-use Rattle.std.proofs.Common.{◌≡◌, ℕ, ◌+◌, ◌*◌, ◌<◌, List, [], ◌∷◌, ◌++◌, length, vec_items, sym, ◌∙◌, subst, ⊎_elim, arith}
+use Rattle.std.proofs.Common.{◌≡◌, ℕ, ◌+◌, ◌*◌, ◌<◌, List, [], ◌∷◌, ◌++◌, length, vec_items, ◌∙◌, subst, ⊎_elim, arith}
 use Rattle.std.proofs.lemmas.List.{get_or_append_left, get_or_push}
 use Rattle.std.proofs.lemmas.Nat.{div-mul-add, mod-mul-add}
 use Rattle.std.proofs.lemmas.Bool.{cases_lt}
@@ -7,9 +7,6 @@ use Rattle.network.specs.Grid.{figure_of}
 use Rattle.network.specs.Grids.{tabulated}
 use Rattle.network.proofs.figures.figures_of.Invariants.{Told}
 use Rattle.network.proofs.figures.figures_of.Goals as goal
-
-pub figure-requires : goal.figure-requires
-figure-requires g c = λ k e. (g.met.S.Source.lawful c.args.source.now).short _ _ k (sym c.distance.ensures ∙ e)
 
 -- once the figure from a to b is pushed
 pushed : (net : Net) (n a b x : ℕ) (ws : List ℕ) → length ws ≡ a * n + b → b < n → x ≡ figure_of (net.distance a b) → Told net n (a * n + b) ws → Told net n (a * n + (b + 1)) (ws ++ x ∷ [])

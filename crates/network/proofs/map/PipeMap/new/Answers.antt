@@ -1,12 +1,10 @@
 use Rattle.std.proofs.Common.{◌≡◌, ℕ, List, sym, ◌∙◌, subst}
 use Rattle.network.specs.declared.pipe.Pipe.{Pipe}
 use Rattle.network.specs.declared.map.PipeMap.{PipeMap}
-use Rattle.network.specs.declared.pipe_network.PipeNetwork.{PipeNetwork}
 use Rattle.network.specs.Routes.{Shortest}
 use Rattle.network.specs.Grid.{grid_net}
-use Rattle.network.specs.Pipes.{Joins, GoodPipes, LeastGrid, map_rules}
+use Rattle.network.specs.Pipes.{Joins, GoodPipes, LeastGrid}
 use Rattle.network.specs.Meanings.{of_map}
-use Rattle.network.proofs.Makings.{no_memory, part_refused}
 use Rattle.network.proofs.Lays.{least_shortest, unlock_pipes}
 use Rattle.network.proofs.map.PipeMap.new.Goals as goal
 
@@ -25,20 +23,6 @@ kept_shortest n m k ps qs ws e f g good least =
 
 abbrev Meant : ℕ → List Pipe → PipeMap → Type 0
 Meant n ps m = Shortest (Joins ps) n (of_map m)
-
-pub returns-in_err-network-clause-made : goal.returns-in_err-network-clause-made
-returns-in_err-network-clause-made c =
-    let n = c.args.n in
-    let ps = c.args.pipes.now in
-    part_refused (map_rules n ps) (λ (s : PipeNetwork). (s.count ≡ n) × (s.pipes.now ≡ ps)) (Meant n ps) _ _ c.in_err-network.ensures c.from_residual.ensures.1
-
-pub returns-in_err-table-clause-made : goal.returns-in_err-table-clause-made
-returns-in_err-table-clause-made c =
-    no_memory (map_rules c.args.n c.args.pipes.now) (Meant c.args.n c.args.pipes.now) _ c.in_ok-network.ensures.0 c.from_residual-in_err-table.ensures.1
-
-pub returns-in_err-pipes-clause-made : goal.returns-in_err-pipes-clause-made
-returns-in_err-pipes-clause-made c =
-    no_memory (map_rules c.args.n c.args.pipes.now) (Meant c.args.n c.args.pipes.now) _ c.in_ok-network.ensures.0 c.from_residual-in_err-pipes.ensures.1
 
 pub invariant_of-result : goal.invariant_of-result
 invariant_of-result c =
