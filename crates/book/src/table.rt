@@ -12,8 +12,8 @@ use pricing::amount::Amount;
 use revenue::carried::Carried;
 use terms::points::Side;
 
-// What a book holds beside its source. It names no source, so each call is proved on it once, whatever a source means, and the book
-// passes its own.
+// What a book holds beside its source. Calls work on the table: they change it in steps, between which no calls lead to it, and a
+// book's type says that some do. So the book has each call as a whole, and the steps stand here.
 #[derive(Drop)]
 pub struct PointTable {
     pub(crate) entries: Row,

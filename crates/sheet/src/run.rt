@@ -49,7 +49,7 @@ fn take_line(
             write!(out, "{closed}")?;
             Ok(Carried::new(closing.rest).unwrap())
         }
-        // the one fault that is no refusal of the line
+        // no `?` in its place: every other fault is printed, and this one ends the run
         Err(SheetFault::NoMemory) => Err(AllocError),
         Err(fault) => {
             let refused = Refused {

@@ -1,4 +1,4 @@
-//! Work for the benchmarks. `timing_c` exports it to C.
+//! Work for the benchmarks. `timing_c` exports it to C, so each piece of work takes a heap and a count of turns, as C gives them.
 #![tactic(auto)]
 
 ghost use Rattle.std.specs.Prelude.{◌*◌, ◌^◌, ◌<◌, ◌≤◌};
