@@ -165,20 +165,19 @@ FORMS = [
 ]
 
 
-def answers(kind):
-    out = []
-    for f in sorted((top / "crates").glob("*/proofs/**/*.antt")):
-        for n, l in enumerate(f.read_text().split("\n"), 1):
-            if kind == "answers" and re.match(r"(?:abbrev )?pub \S+ : goal\.", l):
-                out.append((str(f.relative_to(top / "crates")), n, l))
-            if kind == "lemmas" and re.match(r"(?:pub )?[a-z][\w'-]* : ", l):
-                out.append((str(f.relative_to(top / "crates")), n, l))
-    return out
+def in_proofs(pattern):
+    """Lines of proofs/ that begin so."""
+    return [
+        (str(f.relative_to(top / "crates")), n, l)
+        for f in sorted((top / "crates").glob("*/proofs/**/*.antt"))
+        for n, l in enumerate(f.read_text().split("\n"), 1)
+        if re.match(pattern, l)
+    ]
 
 
 FORMS += [
-    ("8", "answers to goals in proofs/", lambda: answers("answers")),
-    ("8", "lemmas in proofs/", lambda: answers("lemmas")),
+    ("8", "answers to goals in proofs/", lambda: in_proofs(r"(?:abbrev )?pub \S+ : goal\.")),
+    ("8", "lemmas in proofs/", lambda: in_proofs(r"(?:pub )?[a-z][\w'-]* : ")),
 ]
 
 for point, title, look in FORMS:
