@@ -24,7 +24,7 @@ module _ (net : Net) (lawful : Lawful net) where
   pub stands_empty : (t : PointTable) → Shows t empty → Stands net [] t
   stands_empty t sh = stands [] empty t started sh
 
-  extends : (t : PointTable) (c : Call) (o : Outcome) (t' : PointTable) → Follows net t c o t' → Extends net t (one c o) t'
+  pub extends : (t : PointTable) (c : Call) (o : Outcome) (t' : PointTable) → Follows net t c o t' → Extends net t (one c o) t'
   extends t c o t' f h s = let n = f s.known.book s.shown in stands (h ++ one c o) n.0 t' (handled s.known.led n.1) n.2
 
   -- what a call keeps, from what the table keeps and follows

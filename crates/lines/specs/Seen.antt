@@ -1,5 +1,5 @@
 -- What the lines and words of the code stand for.
-use Rattle.std.specs.Prelude.{◌≡◌, ℕ, ◌+◌, ◌<◌, ◌≤◌, cond, List, ◌∷◌, length, drop, nat_lt}
+use Rattle.std.specs.Prelude.{◌≡◌, ℕ, ◌+◌, ◌<◌, ◌≤◌, cond, List, ◌∷◌, length, drop, Option, IfSome, nat_lt}
 use Rattle.lines.specs.declared.raw.methods.Lines.{Lines}
 use Rattle.lines.specs.declared.raw.RawLine.{RawLine}
 use Rattle.lines.specs.declared.words.Word.{Word}
@@ -37,6 +37,12 @@ pub record BeginsAt (sheet : Text) (at : ℕ) (l : RawLine) : Type 0 where
 -- the lines that are left of a sheet
 abbrev pub lines_left : Lines → List Raw
 lines_left s = lines (drop s.at s.sheet.now)
+
+-- The line that is given next begins where the lines stand in their sheet, and they stand after it then; the sheet stays.
+pub record FindsNext (s : Lines) (given : Option RawLine) (t : Lines) : Type 0 where
+  pub found : IfSome given (BeginsAt s.sheet.now s.at)
+  pub onto : IfSome given (λ l. t.at ≡ next_of l)
+  pub same : t.sheet ≡ s.sheet
 
 -- the bytes of a word
 abbrev pub text_of : Word → Text

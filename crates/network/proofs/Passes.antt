@@ -76,7 +76,7 @@ module _ (n : ℕ) (ws : List ℕ) (k : ℕ) (hk : k < n) (itself : at n ws k k 
       let f = subst (λ (x : ℕ). us ≡ set vs (a * x + b) (through x vs k a b)) same e in
       subst (Row n ws k a (b + 1)) (sym f) (row_more vs a b (squared g n same) ha hb inv)
 
-  rows_more : (vs us : List ℕ) (a : ℕ) → a < n → Rows n ws k a vs → OneRow n vs k a us → Rows n ws k (a + 1) us
+  pub rows_more : (vs us : List ℕ) (a : ℕ) → a < n → Rows n ws k a vs → OneRow n vs k a us → Rows n ws k (a + 1) us
   rows_more vs us a ha inv row c d hc hd =
       let y : at n vs k d ≡ at n ws k d = either_way k a (at n vs k d) (through n ws k k d) (at n ws k d) (row_kept d) (inv k d hk hd) in
       let f : c ≡ a → through n vs k c d ≡ through n ws k c d = λ p.

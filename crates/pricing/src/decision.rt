@@ -8,6 +8,7 @@ ghost use Rattle.pricing.specs.Drafts.{drawing_of, draw_rules, figures_of, Promi
 use crate::amount::Amount;
 use crate::figures::TariffFigures;
 use crate::plan::SidePlan;
+use crate::tariffs::side_figures;
 use terms::faults::BookFault;
 
 mod lines;
@@ -34,11 +35,11 @@ pub fn draw(allowed: Amount, entries: SidePlan, exits: SidePlan) -> Result<Draft
     ensures promised { IfOk result (λ d. Promised (drawing_of allowed.dinars.0 entries exits) d.figures) }
 {
     let (of_entries, of_exits) = allowed.halves();
-    let entry_figures = entries.figures(of_entries).ok_or(BookFault::NoEntryShares)?;
-    let exit_figures = exits.figures(of_exits).ok_or(BookFault::NoExitShares)?;
+    let entry_side = entries.sharing(of_entries).ok_or(BookFault::NoEntryShares)?;
+    let exit_side = exits.sharing(of_exits).ok_or(BookFault::NoExitShares)?;
     let figures = TariffFigures {
-        entries: entry_figures,
-        exits: exit_figures,
+        entries: side_figures(entry_side, entries.lots),
+        exits: side_figures(exit_side, exits.lots),
     };
     Ok(Draft { figures })
 }

@@ -31,7 +31,7 @@ fn element(share: Dinars<u64>, lots: Lots) -> ElementFigures
 }
 
 // The shares and tariffs of a side: storage first, then the others with what storage released.
-fn side_figures(side: Sharing, lots: SideLots) -> SideFigures
+pub(crate) fn side_figures(side: Sharing, lots: SideLots) -> SideFigures
     ensures value { result ≡ side_of (base_of side) lots }
     ensures bound { highest result ≤ most_tariff }
 {
@@ -45,10 +45,10 @@ fn side_figures(side: Sharing, lots: SideLots) -> SideFigures
 }
 
 impl SidePlan {
-    // The side's figures at its half of the allowed revenue, or none where it has no exact shares.
-    pub(crate) fn figures(self, half: Amount) -> Option<SideFigures>
-        ensures { let b = basis half.dinars.0 self.weights self.relief.parts in MatchOption result (others b ≡ 0) (λ f. HasShares b × (f ≡ side_of b self.lots) × (highest f ≤ most_tariff)) }
+    // The side at its half of the allowed revenue, or none where it has no exact shares.
+    pub(crate) fn sharing(self, half: Amount) -> Option<Sharing>
+        ensures { let b = basis half.dinars.0 self.weights self.relief.parts in MatchOption result (others b ≡ 0) (λ s. HasShares b × (base_of s ≡ b)) }
     {
-        Sharing::new(half, self.weights, self.relief).map(|side| side_figures(side, self.lots))
+        Sharing::new(half, self.weights, self.relief)
     }
 }

@@ -41,3 +41,9 @@ pub fn refused_line(heap: Global, line: usize, number: u32) -> Result<String, Al
 {
     Refused { line, number }.to_string(heap)
 }
+
+pub fn closed_line(heap: Global, closing: Closing) -> Result<String, AllocError>
+    ensures { IfOk result (λ s. string_bytes s ≡ closed_text closing) }
+{
+    Closed(closing).to_string(heap)
+}

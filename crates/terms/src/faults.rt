@@ -39,7 +39,7 @@ pub trait Fault: Copy {
 // The twelve figures of a closing, in the order in which they are given.
 #[derive(Clone, Copy, PartialEq, Eq, Debug)]
 pub enum ClosingFigure {
-    Operating = 1,
+    Operating,
     Depreciation,
     Assets,
     Rate,
@@ -109,7 +109,7 @@ impl ClosingFigure {
     pub fn number(self) -> usize
         ensures { result ≡ figure_number self }
     {
-        self as usize
+        self as usize + 1
     }
 }
 

@@ -1,7 +1,7 @@
 ghost use Rattle.std.specs.Prelude.{◌≡◌, ◌≤◌, [], length, drop, MatchOption};
 ghost use Rattle.std.specs.Iterator.{YieldsFirstBy, item_count};
 ghost use Rattle.lines.specs.Lines.{lines, LinesOf};
-ghost use Rattle.lines.specs.Seen.{sheet_of, bytes_of, raw_of, next_of, BeginsAt, lines_left};
+ghost use Rattle.lines.specs.Seen.{sheet_of, bytes_of, raw_of, next_of, BeginsAt, lines_left, FindsNext};
 
 use super::RawLine;
 use crate::bytes::LINE_FEED;
@@ -32,7 +32,9 @@ pub struct Lines<'a> {
 impl<'a> Lines<'a> {
     // All lines of a sheet.
     pub fn new(sheet: &'a [u8]) -> Lines<'a>
-        ensures { lines_left result ≡ lines sheet.now }
+        ensures same { result.sheet.now ≡ sheet.now }
+        ensures first { result.at ≡ 0 }
+        ensures left { lines_left result ≡ lines sheet.now }
     {
         Lines { sheet, at: 0 }
     }
@@ -41,7 +43,8 @@ impl<'a> Lines<'a> {
 impl<'a> Iterator for Lines<'a> {
     type Item = RawLine<'a>;
 
-    ghost next_gives = { YieldsFirstBy raw_of lines_left };
+    // Each line is the one that begins where the lines before it end, and stands in the sheet itself.
+    ghost next_gives = { λ s r t. YieldsFirstBy raw_of lines_left s r t × FindsNext s r t };
 
     ghost remaining = { item_count lines_left };
 

@@ -16,12 +16,12 @@ loop-n-preserved c =
     let i = c.loop-n.invariant in
     let turn = c.in-Some.ensures.steps in
     let next : c.next.new.self.a.start ≡ c.in-Some.n + 1 = search rules in
-    (omega (arith, i.0, next, turn.0.0, ap length turn.1), so_far_more _ _ _ _ _ _ _ _ _ _ _ i.1 turn.1 turn.0.0 next c.in_ok-carried.ensures)
+    (omega (arith, i.0, next, turn.0.0, ap length turn.1.0), so_far_more _ _ _ _ _ _ _ _ _ _ _ i.1 turn.1.0 turn.0.0 next c.in_ok-carried.ensures)
 
 -- the numbers do not run out before the lines
 pub returns : goal.returns
 returns c =
     let i = c.loop-n.invariant in
     let ended : lines_left c.loop-n.n-iterator.b ≡ [] =
-    ⊎_elim (λ out. absurd (omega (arith, i.0, out.1.0, lines_few c.args.sheet.now, c.requires))) (λ none. none.1.0) c.in-None.ensures.steps in
+    ⊎_elim (λ out. absurd (omega (arith, i.0, out.1.0, lines_few c.args.sheet.now, c.requires))) (λ none. none.1.0.0) c.in-None.ensures.steps in
     so_far_end _ _ _ _ _ i.1 ended
