@@ -11,12 +11,10 @@ use Rattle.terms.specs.Faults.{book_refusal}
 use Rattle.terms.specs.Refusals.{FirstBroken, NoneBroken}
 use Rattle.network.specs.Net.{Net}
 use Rattle.pricing.specs.declared.elements.Elements.{Elements}
-use Rattle.pricing.specs.declared.plan.SidePlan.{SidePlan}
-use Rattle.pricing.specs.declared.relief.Relief.{Relief}
 use Rattle.pricing.specs.declared.decision.Draft.{Draft}
 use Rattle.pricing.specs.Shares.{basis}
 use Rattle.pricing.specs.Rules.{Answered}
-use Rattle.pricing.specs.Drafts.{Drawing, drawing_of, draw_rules, figures_of}
+use Rattle.pricing.specs.Drafts.{Drawing, draw_rules, figures_of}
 use Rattle.rules.specs.declared.calls.Call.TheVariants.{Draw}
 use Rattle.rules.specs.declared.calls.Answer.TheVariants.{Drawn}
 use Rattle.rules.specs.Points.{Point, Plain, same_side, opposite, on_side}
@@ -73,26 +71,26 @@ abbrev drawing_from : ℕ → Elements ℕ → ℕ → Elements Lots → Element
 drawing_from a w r l w' r' l' = record { allowed = a; entries = basis (half_of a Entry) w r; entry_lots = l; exits = basis (half_of a Exit) w' r'; exit_lots = l' }
 
 module _ (net : Net) (t : PointTable) (p : Plain) (sh : Shows t p) where
-  -- what is worked out from a table's records
-  pub record PlanOf (plan : SidePlan) (s : Side) : Type 0 where
-    pub weights : plan.weights ≡ record_weights net s (held_in (row_of t s)) (held_in (row_of t (opposite s)))
-    pub lots : plan.lots ≡ record_side_lots s (held_in (row_of t s))
-    pub relief : plan.relief ≡ (row_of t s).relief
+  -- a side's weights, storage relief and lots, as worked out from a table's records
+  pub record PlanOf (w : Elements ℕ) (r : ℕ) (l : Elements Lots) (s : Side) : Type 0 where
+    pub weights : w ≡ record_weights net s (held_in (row_of t s)) (held_in (row_of t (opposite s)))
+    pub relief : r ≡ (row_of t s).relief.parts
+    pub lots : l ≡ record_side_lots s (held_in (row_of t s))
 
-  drawing_shown : (e x : SidePlan) → PlanOf e Entry → PlanOf x Exit → drawing_of t.allowed.dinars.0 e x ≡ drawing net p
-  drawing_shown e x h k =
-      ap (λ a. drawing_from a e.weights e.relief.parts e.lots x.weights x.relief.parts x.lots) sh.allowed
-      ∙ ap (λ w. drawing_from p.allowed w e.relief.parts e.lots x.weights x.relief.parts x.lots) (h.weights ∙ weights_shown net t p sh Entry)
-      ∙ ap (λ r. drawing_from p.allowed (weights_of net p.points Entry) r e.lots x.weights x.relief.parts x.lots) (ap (λ (r : Relief). r.parts) h.relief ∙ (sh.sides Entry).relief)
-      ∙ ap (λ l. drawing_from p.allowed (weights_of net p.points Entry) (p.relief Entry) l x.weights x.relief.parts x.lots) (h.lots ∙ lots_shown net t p sh Entry)
-      ∙ ap (λ w. drawing_from p.allowed (weights_of net p.points Entry) (p.relief Entry) (side_lots p.points Entry) w x.relief.parts x.lots) (k.weights ∙ weights_shown net t p sh Exit)
-      ∙ ap (λ r. drawing_from p.allowed (weights_of net p.points Entry) (p.relief Entry) (side_lots p.points Entry) (weights_of net p.points Exit) r x.lots) (ap (λ (r : Relief). r.parts) k.relief ∙ (sh.sides Exit).relief)
-      ∙ ap (λ l. drawing_from p.allowed (weights_of net p.points Entry) (p.relief Entry) (side_lots p.points Entry) (weights_of net p.points Exit) (p.relief Exit) l) (k.lots ∙ lots_shown net t p sh Exit)
+  drawing_shown : (w w' : Elements ℕ) (r r' : ℕ) (l l' : Elements Lots) → PlanOf w r l Entry → PlanOf w' r' l' Exit → drawing_from t.allowed.dinars.0 w r l w' r' l' ≡ drawing net p
+  drawing_shown w w' r r' l l' e x =
+      ap (λ a. drawing_from a w r l w' r' l') sh.allowed
+      ∙ ap (λ v. drawing_from p.allowed v r l w' r' l') (e.weights ∙ weights_shown net t p sh Entry)
+      ∙ ap (λ q. drawing_from p.allowed (weights_of net p.points Entry) q l w' r' l') (e.relief ∙ (sh.sides Entry).relief)
+      ∙ ap (λ m. drawing_from p.allowed (weights_of net p.points Entry) (p.relief Entry) m w' r' l') (e.lots ∙ lots_shown net t p sh Entry)
+      ∙ ap (λ v. drawing_from p.allowed (weights_of net p.points Entry) (p.relief Entry) (side_lots p.points Entry) v r' l') (x.weights ∙ weights_shown net t p sh Exit)
+      ∙ ap (λ q. drawing_from p.allowed (weights_of net p.points Entry) (p.relief Entry) (side_lots p.points Entry) (weights_of net p.points Exit) q l') (x.relief ∙ (sh.sides Exit).relief)
+      ∙ ap (λ m. drawing_from p.allowed (weights_of net p.points Entry) (p.relief Entry) (side_lots p.points Entry) (weights_of net p.points Exit) (p.relief Exit) m) (x.lots ∙ lots_shown net t p sh Exit)
 
   handled_as : (r : Result Draft BookFault) (d : Drawing) → d ≡ drawing net p → Answered (draw_rules d) (λ x. x.figures ≡ figures_of d) r → Handles net p Draw (drawn r) p
   handled_as (Ok x) d e v = subst (λ f. Handles net p Draw (Ok (Drawn f)) p) (sym (v.1 ∙ ap figures_of e)) (accepted (subst (λ z. NoneBroken (draw_rules z)) e v.0))
   handled_as (Err f) d e v = refused (subst (λ z. FirstBroken (draw_rules z) (book_refusal f)) e v)
 
   -- a draw from a table's figures
-  pub draws : (r : Result Draft BookFault) (e x : SidePlan) → PlanOf e Entry → PlanOf x Exit → Answered (draw_rules (drawing_of t.allowed.dinars.0 e x)) (λ d. d.figures ≡ figures_of (drawing_of t.allowed.dinars.0 e x)) r → (p' : Plain) × Handles net p Draw (drawn r) p' × Shows t p'
-  draws r e x h k v = (p, handled_as r _ (drawing_shown e x h k) v, sh)
+  pub draws : (r : Result Draft BookFault) (w w' : Elements ℕ) (q q' : ℕ) (l l' : Elements Lots) → (let d = drawing_from t.allowed.dinars.0 w q l w' q' l' in Answered (draw_rules d) (λ x. x.figures ≡ figures_of d) r) → PlanOf w q l Entry → PlanOf w' q' l' Exit → (p' : Plain) × Handles net p Draw (drawn r) p' × Shows t p'
+  draws r w w' q q' l l' v e x = (p, handled_as r _ (drawing_shown w w' q q' l l' e x) v, sh)

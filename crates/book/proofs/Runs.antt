@@ -1,7 +1,6 @@
 -- One call more of a run.
 use Rattle.std.proofs.Common.{◌≡◌, ℕ, ◌+◌, ◌<◌, List, [], ◌∷◌, ◌++◌, length, get_or, take, Ok, Err, Result, sym, refl, ap, ◌∙◌, subst, arith}
 use Rattle.std.proofs.lemmas.List.{take_more, length-take}
-use Rattle.std.proofs.Math.Logic.{∥∥₁_map}
 use Rattle.std.specs.Result.{MatchResult, IsOkAnd}
 use Rattle.terms.specs.declared.faults.BookFault.{BookFault}
 use Rattle.network.specs.Net.{Net, Lawful}
@@ -15,7 +14,7 @@ use Rattle.rules.proofs.Promised.{promised, known_take}
 use Rattle.book.specs.declared.table.PointTable.{PointTable}
 use Rattle.book.specs.Shows.{Shows}
 use Rattle.book.specs.Follows.{Follows, Kept, outcome}
-use Rattle.book.specs.Law.{Stands, Standing, Extends, Keeps, Run}
+use Rattle.book.specs.Law.{Stands, Extends, Keeps, Run}
 
 module _ (net : Net) (lawful : Lawful net) where
   stands : (h : History) (p : Plain) (t : PointTable) → Led net h p → Shows t p → Stands net h t
@@ -31,9 +30,6 @@ module _ (net : Net) (lawful : Lawful net) where
   pub keeps : {T : Type 0} (answer : T → Answer) (t : PointTable) (c : Call) (r : Result T BookFault) (t' : PointTable) → Kept r t t' → Follows net t c (outcome answer r) t' → Keeps net t c (outcome answer r) t'
   keeps answer t c (Ok x) t' k f = record { kept = k; step = f; law = extends t c (Ok (answer x)) t' f }
   keeps answer t c (Err e) t' k f = record { kept = k; step = f; law = extends t c (Err e) t' f }
-
-  pub stood : (t : PointTable) (c : Call) (o : Outcome) (t' : PointTable) → Keeps net t c o t' → Standing net t → Standing net t'
-  stood t c o t' k s = ∥∥₁_map s (λ x. (x.0 ++ one c o, k.law x.0 x.1))
 
   pub ran : (cs : List Call) (os : List Outcome) (t : PointTable) → length os ≡ length cs → Stands net (paired cs os) t → Run net cs os t
   ran cs os t l s = record { answered = l; each = λ k _. known_take net lawful cs os s.known.book s.known.led k; ends = s }

@@ -22,10 +22,6 @@ pub record Stands (net : Net) (h : History) (t : PointTable) : Type 0 where
   pub known : Known net h
   pub shown : Shows t known.book
 
--- Some calls lead to the table.
-abbrev pub Standing : Net → PointTable → Type 0
-Standing net t = ∥ ((h : History) × Stands net h t) ∥₁
-
 -- Whatever calls led to the table before, they and these lead to the table after.
 abbrev pub Extends : Net → PointTable → History → PointTable → Type 0
 Extends net t more t' = (h : History) → Stands net h t → Stands net (h ++ more) t'

@@ -3,7 +3,7 @@ ghost use Rattle.std.specs.Prelude.{◌≡◌, [], IfOk};
 ghost use Rattle.network.specs.Meanings.{of_trunk};
 ghost use Rattle.network.specs.Trunk.{trunk_net, trunk_rules};
 ghost use Rattle.book.specs.Follows.{opened, done, closed, drawn};
-ghost use Rattle.book.specs.Law.{Stands, Standing, Keeps, Run, Founded};
+ghost use Rattle.book.specs.Law.{Stands, Keeps, Run, Founded};
 
 use crate::table::PointTable;
 use network::source::Source;
@@ -16,14 +16,12 @@ use terms::faults::BookFault;
 use terms::measures::Lots;
 use terms::points::{Kind, Side};
 
-// A tariff book over a distance source. It is made empty, and handled by its five calls and by nothing else, so some calls lead to
-// its table.
+// A tariff book over a distance source. It is made empty, and handled by its five calls and by nothing else.
 // A refused call changes nothing. No call allocates.
 #[derive(Drop)]
 pub struct Book<S: Source> {
     source: S,
     pub(crate) table: PointTable,
-    ghost stands: { Standing (S.Source.net source) table },
 }
 
 impl<S: Source> Book<S> {

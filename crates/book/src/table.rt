@@ -12,8 +12,8 @@ use pricing::amount::Amount;
 use revenue::carried::Carried;
 use terms::points::Side;
 
-// What a book holds beside its source. Calls work on the table: they change it in steps, between which no calls lead to it, and a
-// book's type says that some do. So the book has each call as a whole, and the steps stand here.
+// What a book holds beside its source. A call stands here with what it does by itself, over any net where it asks no source; the
+// book's call of that name says, for the source that it holds, what all calls up to it lead to.
 #[derive(Drop)]
 pub struct PointTable {
     pub(crate) entries: Row,

@@ -24,7 +24,7 @@ loop-b-preserved g c =
     let n = c.stations-n.result in
     let a = c.loop-a.a in
     let b = c.loop-b.b in
-    let is : c.figure.result ≡ figure_of (net.distance a b) = cc in
+    let is : c.figure.result ≡ figure_of (net.distance a b) = grind arith in
     let told : Told net n (a * n + (b + 1)) (vec_items c.loop-b.figures ++ c.figure.result ∷ []) =
     pushed net n a b c.figure.result (vec_items c.loop-b.figures) (omega arith) c.loop-b-test.true is c.loop-b.invariant.1 in
     (omega (arith, c.in_ok-push.ensures.len), rw (c.in_ok-push.ensures.items) told)

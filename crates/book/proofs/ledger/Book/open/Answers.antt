@@ -1,14 +1,8 @@
 use Rattle.rules.specs.declared.calls.Answer.TheVariants.{Opened}
-use Rattle.book.proofs.Runs.{keeps, stood}
+use Rattle.book.proofs.Runs.{keeps}
 use Rattle.book.proofs.ledger.Book.open.Goals as goal
 
 pub returns-clause-keeps : goal.returns-clause-keeps
 returns-clause-keeps g c =
     let e = c.open.ensures in
     keeps _ (g.met.S.Source.lawful c.args.self.now.source) Opened _ _ _ _ e.kept e.step
-
-pub invariant_of-self : goal.invariant_of-self
-invariant_of-self g c =
-    let e = c.open.ensures in
-    let lawful = g.met.S.Source.lawful c.args.self.now.source in
-    record { stands = stood _ lawful _ _ _ _ (keeps _ lawful Opened _ _ _ _ e.kept e.step) c.args.self.now.stands }

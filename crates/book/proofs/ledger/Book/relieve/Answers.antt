@@ -1,5 +1,5 @@
 use Rattle.rules.specs.declared.calls.Answer.TheVariants.{Done}
-use Rattle.book.proofs.Runs.{keeps, stood}
+use Rattle.book.proofs.Runs.{keeps}
 use Rattle.book.proofs.ledger.Book.relieve.Goals as goal
 
 pub returns-clause-keeps : goal.returns-clause-keeps
@@ -7,10 +7,3 @@ returns-clause-keeps g c =
     let net = g.S.Source.net c.args.self.now.source in
     let e = c.relieve.ensures in
     keeps net (g.met.S.Source.lawful c.args.self.now.source) (λ _. Done) _ _ _ _ e.kept (e.step net)
-
-pub invariant_of-self : goal.invariant_of-self
-invariant_of-self g c =
-    let net = g.S.Source.net c.args.self.now.source in
-    let lawful = g.met.S.Source.lawful c.args.self.now.source in
-    let e = c.relieve.ensures in
-    record { stands = stood net lawful _ _ _ _ (keeps net lawful (λ _. Done) _ _ _ _ e.kept (e.step net)) c.args.self.now.stands }

@@ -8,7 +8,6 @@ returns g c = λ p sh.
     let w = c.six_weights.ensures in
     let e = c.side_plan-entries.ensures in
     let x = c.side_plan-exits.ensures in
-    draws net c.args.self.now p sh c.draw.result _ _
-    (record { weights = e.weights ∙ w.entries; lots = e.lots; relief = e.relief })
-    (record { weights = x.weights ∙ w.exits; lots = x.lots; relief = x.relief })
-    c.draw.ensures.drawn
+    draws net c.args.self.now p sh c.draw.result _ _ _ _ _ _ c.draw.ensures.drawn
+    (record { weights = e.weights ∙ w.entries; relief = cc; lots = e.lots })
+    (record { weights = x.weights ∙ w.exits; relief = cc; lots = x.lots })
